@@ -1,0 +1,4 @@
+pub mod Grammar
+pub mod Rules
+pub mod Plain
+pub mod Reading
