@@ -4,9 +4,12 @@
 pub mod checker;
 pub mod duplicate;
 pub mod language;
+pub mod limits;
 pub mod memory;
 pub mod script;
 pub mod sequence;
+#[cfg(test)]
+mod tests;
 pub mod texts;
 pub mod values;
 

@@ -1,7 +1,9 @@
 //! Scripts: hints for the profile, and the calls to be made.
 
 use crate::checker::Checked;
+use crate::duplicate::Duplicate;
 use crate::language::{Edge, FunId, Label, Values};
+use crate::memory::NoMemory;
 use crate::sequence::Sequence;
 
 /// A hint for the profile.
@@ -52,4 +54,10 @@ pub struct Script {
 pub struct Input {
     pub checked: Checked,
     pub script: Script,
+}
+
+impl Duplicate for Setup {
+    fn copy(&self) -> Result<Setup, NoMemory> {
+        Ok(*self)
+    }
 }
