@@ -1,0 +1,5 @@
+pub mod Lists
+pub mod FitsLemmas
+pub mod RunLemmas
+pub mod SameLaws
+pub mod Segments
