@@ -1,0 +1,10 @@
+pub mod Magnitudes
+pub mod Skips
+pub mod Wells
+pub mod Numbered
+pub mod Tables
+pub mod Found
+pub mod Steps
+pub mod EndsLaws
+pub mod Again
+pub mod Longest

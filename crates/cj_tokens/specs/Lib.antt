@@ -1,1 +1,11 @@
 pub mod Lexemes
+pub mod Bytes
+pub mod Spellings
+pub mod Scan
+pub mod Seen
+pub mod Left
+pub mod Words
+pub mod Passing
+pub mod Pieces
+pub mod Ends
+pub mod Printed

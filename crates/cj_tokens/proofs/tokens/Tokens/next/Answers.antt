@@ -1,0 +1,29 @@
+use Rattle.std.proofs.Common.{◌∙◌, sym}
+use Rattle.cj_tokens.specs.Left.{left, stream}
+use Rattle.cj_tokens.specs.Seen.{placed}
+use Rattle.cj_tokens.proofs.Steps.{given_passed, given_stays, left_past, next_is}
+use Rattle.cj_tokens.proofs.tokens.Tokens.next.Goals as goal
+
+pub returns-then-is_passed-clause-answer : goal.returns-then-is_passed-clause-answer
+unfolding stream
+returns-then-is_passed-clause-answer c = c.given-answer.ensures ∙ sym (next_is c.args.self.now.bytes.now (placed c.args.self.now.ahead))
+
+pub returns-then-is_passed-clause-stream : goal.returns-then-is_passed-clause-stream
+unfolding stream
+returns-then-is_passed-clause-stream c = given_passed c.args.self.now.bytes.now (placed c.args.self.now.ahead) (placed c.behind-self.result) (sym c.is_passed.ensures ∙ c.if-is_passed.true) c.behind-self.ensures.found
+
+pub returns-then-is_passed-clause-left : goal.returns-then-is_passed-clause-left
+unfolding left stream
+returns-then-is_passed-clause-left c = left_past c.args.self.now.is_past_end c.args.self.now.bytes.now (placed c.args.self.now.ahead) (placed c.behind-self.result) (given_passed c.args.self.now.bytes.now (placed c.args.self.now.ahead) (placed c.behind-self.result) (sym c.is_passed.ensures ∙ c.if-is_passed.true) c.behind-self.ensures.found)
+
+pub returns-else-is_passed-clause-answer : goal.returns-else-is_passed-clause-answer
+unfolding stream
+returns-else-is_passed-clause-answer c = c.given-answer.ensures ∙ sym (next_is c.args.self.now.bytes.now (placed c.args.self.now.ahead))
+
+pub returns-else-is_passed-clause-stream : goal.returns-else-is_passed-clause-stream
+unfolding stream
+returns-else-is_passed-clause-stream c = given_stays c.args.self.now.bytes.now (placed c.args.self.now.ahead) (sym c.is_passed.ensures ∙ c.if-is_passed.false)
+
+pub returns-else-is_passed-clause-left : goal.returns-else-is_passed-clause-left
+unfolding left stream
+returns-else-is_passed-clause-left c = left_past c.args.self.now.is_past_end c.args.self.now.bytes.now (placed c.args.self.now.ahead) (placed c.args.self.now.ahead) (given_stays c.args.self.now.bytes.now (placed c.args.self.now.ahead) (sym c.is_passed.ensures ∙ c.if-is_passed.false))
