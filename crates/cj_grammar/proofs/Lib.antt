@@ -1,0 +1,14 @@
+pub mod ReadsLaws
+pub mod Signs
+pub mod Eats
+pub mod Begins
+pub mod Complete
+pub mod Local
+pub mod Repeats
+pub mod ContentsLaws
+pub mod FirstBad
+pub mod GrammarLaws
+pub mod Ahead
+pub mod Turns
+pub mod ClassOne
+pub mod ShapesLaws

@@ -3,6 +3,7 @@ use Rattle.std.specs.Prelude.{◌≡◌, ℕ, zero, suc, Bool, true, false, cond
 use Rattle.std.specs.List.{list_any}
 use Rattle.std.proofs.Common.{inl, inr}
 use Rattle.cj_tokens.specs.Lexemes.{Lexeme, Sign, fits, clash}
+use Rattle.cj_tokens.specs.Passing.{pass}
 
 -- one token; two rules one after the other; either of two; one or none; any number of times
 pub data Rule : Type 0 where
@@ -104,19 +105,10 @@ abbrev pub eat_many : (List Lexeme → Result (List Lexeme) (List Lexeme)) → (
 eat_many eat_one begins zero ts = Ok ts
 eat_many eat_one begins (suc n) ts = cond (begins ts) (eat_one ts >>= eat_many eat_one begins n) (Ok ts)
 
-abbrev pub eat_tok : Sign → List Lexeme → Result (List Lexeme) (List Lexeme)
-eat_tok s [] = Err []
-eat_tok s (t ∷ ts) = cond (fits s t) (Ok ts) (Err (t ∷ ts))
-
 -- What is left behind a sentence of the rule, or from the first token on that fits in none.
 abbrev pub eat : Rule → List Lexeme → Result (List Lexeme) (List Lexeme)
-eat (tok s) ts = eat_tok s ts
+eat (tok s) ts = pass s ts
 eat (seq a b) ts = eat a ts >>= eat b
 eat (alt a b) ts = cond (starts a ts) (eat a ts) (eat b ts)
 eat (opt a) ts = cond (starts a ts) (eat a ts) (Ok ts)
 eat (many a) ts = eat_many (eat a) (starts a) (length ts) ts
-
--- what a reader of the code answered, and where it stands then
-abbrev pub ended : {X E : Type 0} → Result X E → List Lexeme → Result (List Lexeme) (List Lexeme)
-ended (Ok x) ts = Ok ts
-ended (Err e) ts = Err ts

@@ -1,4 +1,7 @@
 pub mod Grammar
+pub mod Contents
 pub mod Rules
 pub mod Plain
 pub mod Reading
+pub mod Offences
+pub mod Shapes

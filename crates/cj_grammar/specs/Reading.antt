@@ -1,6 +1,7 @@
 -- Words for what tokens mean, and for the offences of the second class: the first one, from the left, refuses.
-use Rattle.std.specs.Prelude.{◌≡◌, ℕ, List, [], ◌∷◌, ◌++◌, Option, None, Some, Result, Ok, Err, Bool, cond}
+use Rattle.std.specs.Prelude.{◌≡◌, ℕ, zero, suc, List, [], ◌∷◌, ◌++◌, Option, None, Some, Result, Ok, Err, Bool, cond}
 use Rattle.cj_tokens.specs.Lexemes.{Lexeme}
+use Rattle.cj_grammar.specs.Grammar.{◌>>=◌}
 use Rattle.cj_tokens.specs.declared.refusal.Kind.{Kind}
 use Rattle.cj_tokens.specs.declared.refusal.Refused.{Refused}
 use Rattle.cj_tokens.specs.declared.refusal.ParseError as parse
@@ -41,6 +42,11 @@ reads (e ∷ es) x ts = Err e
 abbrev pub found : {X : Type 0} → Option X → Refused → Result X Refused
 found None e = Err e
 found (Some x) e = Ok x
+
+-- A number of items, each read behind the earlier ones.
+abbrev pub each_at : {X : Type 0} → (List X → List Lexeme → Read X) → ℕ → List X → List Lexeme → Read (List X)
+each_at one zero earlier ts = Ok (earlier, ts)
+each_at one (suc n) earlier ts = one earlier ts >>= λ x. each_at one n (earlier ++ x.0 ∷ []) x.1
 
 -- What the code answered, where a reader of lists is given; want of memory may come at any time.
 

@@ -1,0 +1,65 @@
+-- What readers of lists give on the tokens of a tree, part by part.
+use Rattle.std.proofs.Common.{◌≡◌, List, [], ◌∷◌, ◌++◌, length, Ok, refl, append_assoc}
+use Rattle.std.specs.Prelude.{Option, Some, None, map, flat_map, unwrap_or}
+use Rattle.std.proofs.lemmas.List.{append-nil}
+use Rattle.cj_tokens.specs.Lexemes.{Lexeme}
+use Rattle.cj_tokens.specs.declared.refusal.Kind.{Kind}
+use Rattle.cj_tokens.specs.declared.refusal.Refused.{Refused}
+use Rattle.cj_grammar.specs.Grammar.{◌>>=◌}
+use Rattle.cj_grammar.specs.Reading.{offence, missing, highest, each_offends, Read, reads, found, each_at}
+
+-- a part, and what follows it
+pub reads_then : {X Y : Type 0} (es fs : List Refused) (x : X) (y : Y) (ts us : List Lexeme) (f : X × List Lexeme → Read Y) → f (x, ts) ≡ reads fs y us → (reads es x ts >>= f) ≡ reads (es ++ fs) y us
+reads_then [] fs x y ts us f h = h
+reads_then (e ∷ es) fs x y ts us f h = refl
+
+-- the last part that may offend
+pub reads_last : {X Y : Type 0} (es : List Refused) (x : X) (y : Y) (ts us : List Lexeme) (f : X × List Lexeme → Read Y) → f (x, ts) ≡ Ok (y, us) → (reads es x ts >>= f) ≡ reads es y us
+reads_last [] x y ts us f h = h
+reads_last (e ∷ es) x y ts us f h = refl
+
+-- Where something is looked up, what follows reads with the value that was found, or with any other one.
+pub found_then : {X Y : Type 0} (o : Option X) (other : X) (t : Lexeme) (kind : Kind) (fs : List Refused) (y : Y) (us : List Lexeme) (f : X → Read Y) → f (unwrap_or o other) ≡ reads fs y us → (found o (offence t kind) >>= f) ≡ reads (missing o t kind ++ fs) y us
+found_then None other t kind fs y us f h = refl
+found_then (Some x) other t kind fs y us f h = h
+
+pub found_last : {X Y : Type 0} (o : Option X) (other : X) (t : Lexeme) (kind : Kind) (y : Y) (us : List Lexeme) (f : X → Read Y) → f (unwrap_or o other) ≡ Ok (y, us) → (found o (offence t kind) >>= f) ≡ reads (missing o t kind) y us
+found_last None other t kind y us f h = refl
+found_last (Some x) other t kind y us f h = h
+
+-- the first offence alone counts
+pub highest_reads : {X : Type 0} (es : List Refused) (x : X) (ts : List Lexeme) → reads (highest es) x ts ≡ reads es x ts
+highest_reads [] x ts = refl
+highest_reads (e ∷ es) x ts = refl
+
+pub highest_then : {X : Type 0} (es fs : List Refused) (x : X) (ts : List Lexeme) → reads (highest es ++ fs) x ts ≡ reads (es ++ fs) x ts
+highest_then [] fs x ts = refl
+highest_then (e ∷ es) fs x ts = refl
+
+-- Items that are read one after another, where each reads alike whatever stands behind it.
+pub each_reads : {T X : Type 0} (one : List X → List Lexeme → Read X) (spelled : T → List Lexeme) (offends : List X → T → List Refused) (means : T → X) (earlier : List X) (items : List T) (ts : List Lexeme)
+    → ((earlier : List X) (t : T) (us : List Lexeme) → one earlier (spelled t ++ us) ≡ reads (offends earlier t) (means t) us)
+    → each_at one (length items) earlier (flat_map spelled items ++ ts) ≡ reads (each_offends offends means earlier items) (earlier ++ map means items) ts
+each_reads one spelled offends means earlier [] ts r = rw append-nil refl
+each_reads one spelled offends means earlier (t ∷ items) ts r =
+    let us : List Lexeme = flat_map spelled items ++ ts in
+    let regroup : (spelled t ++ flat_map spelled items) ++ ts ≡ spelled t ++ us = append_assoc (spelled t) (flat_map spelled items) ts in
+    let rest : each_at one (length items) (earlier ++ means t ∷ []) us ≡ reads (each_offends offends means (earlier ++ means t ∷ []) items) ((earlier ++ means t ∷ []) ++ map means items) ts = each_reads one spelled offends means (earlier ++ means t ∷ []) items ts r in
+    let all : (earlier ++ means t ∷ []) ++ map means items ≡ earlier ++ (means t ∷ map means items) = append_assoc earlier (means t ∷ []) (map means items) in
+    rw (regroup, r earlier t us) (reads_then (offends earlier t) (each_offends offends means (earlier ++ means t ∷ []) items) (means t) _ us ts _ (rw (← all) rest))
+
+-- The same, where an item reads as it means only before tokens of some sort, and items are of that sort.
+pub each_reads_before : {T X : Type 0} (Before : List Lexeme → Type 0) (one : List X → List Lexeme → Read X) (spelled : T → List Lexeme) (offends : List X → T → List Refused) (means : T → X) (earlier : List X) (items : List T) (ts : List Lexeme)
+    → ((t : T) (us : List Lexeme) → Before us → Before (spelled t ++ us))
+    → ((earlier : List X) (t : T) (us : List Lexeme) → Before us → one earlier (spelled t ++ us) ≡ reads (offends earlier t) (means t) us)
+    → Before ts
+    → (each_at one (length items) earlier (flat_map spelled items ++ ts) ≡ reads (each_offends offends means earlier items) (earlier ++ map means items) ts) × Before (flat_map spelled items ++ ts)
+each_reads_before Before one spelled offends means earlier [] ts b r h = (rw append-nil refl, h)
+each_reads_before Before one spelled offends means earlier (t ∷ items) ts b r h =
+    let us : List Lexeme = flat_map spelled items ++ ts in
+    let regroup : (spelled t ++ flat_map spelled items) ++ ts ≡ spelled t ++ us = append_assoc (spelled t) (flat_map spelled items) ts in
+    let rest : (each_at one (length items) (earlier ++ means t ∷ []) us ≡ reads (each_offends offends means (earlier ++ means t ∷ []) items) ((earlier ++ means t ∷ []) ++ map means items) ts) × Before us = each_reads_before Before one spelled offends means (earlier ++ means t ∷ []) items ts b r h in
+    let all : (earlier ++ means t ∷ []) ++ map means items ≡ earlier ++ (means t ∷ map means items) = append_assoc earlier (means t ∷ []) (map means items) in (
+      rw (regroup, r earlier t us rest.1) (reads_then (offends earlier t) (each_offends offends means (earlier ++ means t ∷ []) items) (means t) _ us ts _ (rw (← all) rest.0)),
+      rw regroup (b t us rest.1),
+    )

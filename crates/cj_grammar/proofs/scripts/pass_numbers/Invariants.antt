@@ -1,0 +1,11 @@
+use Rattle.std.proofs.Common.{◌≡◌, length}
+use Rattle.cj_tokens.specs.Left.{left}
+use Rattle.cj_grammar.specs.Grammar.{eat}
+use Rattle.cj_grammar.specs.Rules.{numbers}
+use Rattle.cj_grammar.proofs.scripts.pass_numbers.Given as goal
+
+abbrev pub invariant-more : goal.invariant-more
+invariant-more l = eat numbers (left l.fn.tokens) ≡ eat numbers (left l.tokens)
+
+abbrev pub decreases-more : goal.decreases-more
+decreases-more l = length (left l.tokens)
