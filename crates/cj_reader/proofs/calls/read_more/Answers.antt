@@ -1,0 +1,10 @@
+use Rattle.std.proofs.Common.{◌∙◌}
+use Rattle.cj_tokens.specs.Left.{left}
+use Rattle.cj_reader.specs.Known.{scope_in}
+use Rattle.cj_reader.specs.Reading.{next_operand_at}
+use Rattle.cj_reader.proofs.Growing.{each_goes}
+use Rattle.cj_reader.proofs.calls.read_more.Goals as goal
+
+pub more-preserved : goal.more-preserved
+more-preserved c =
+    c.more.invariant ∙ each_goes (next_operand_at (scope_in c.args.scope)) c.args.count c.more.k c.more.operands c.add_operand.new.operands (left c.more.tokens) (left c.add_operand.new.tokens) c.more-test.true c.in-Ok.ensures

@@ -1,0 +1,158 @@
+//! Instructions.
+
+ghost use Rattle.std.specs.Prelude.{◌≡◌};
+ghost use Rattle.cj_tokens.specs.Left.{left};
+ghost use Rattle.cj_grammar.specs.Reading.{Gives};
+ghost use Rattle.cj_reader.specs.Known.{scope_in};
+ghost use Rattle.cj_reader.specs.Reading.{nop_at, op_at, cond_at, call_at, return_at, print_at, load_at, store_at, fail_at, instr_at};
+
+use crate::calls::{callee, read_arguments};
+use crate::counts::count_items;
+use crate::operands::{read_expr, read_operand, read_target, register};
+use crate::refusals::refuse_if;
+use crate::scope::Scope;
+use crate::words::text;
+use cj_ir::Instr;
+use cj_tokens::{Kind, ParseError, Terminal, Tokens};
+use std::alloc::Global;
+
+#[tactic(auto, unfolding(crate::specs::Reading::nop_at))]
+fn read_nop(tokens: &mut Tokens<'_>, scope: Scope<'_>) -> Result<Instr, ParseError>
+    ensures { Gives result (left tokens.new) (nop_at (scope_in scope.entry) (left tokens.old)) }
+{
+    let next = read_target(tokens, scope)?;
+    Ok(Instr::Nop { next })
+}
+
+#[tactic(auto, unfolding(crate::specs::Reading::op_at))]
+fn read_op(tokens: &mut Tokens<'_>, scope: Scope<'_>) -> Result<Instr, ParseError>
+    ensures { Gives result (left tokens.new) (op_at (scope_in scope.entry) (left tokens.old)) }
+{
+    let name = tokens.take();
+    let dest = register(scope, name)?;
+    let _equals = tokens.take();
+    let expr = read_expr(tokens, scope)?;
+    let next = read_target(tokens, scope)?;
+    Ok(Instr::Op { dest, expr, next })
+}
+
+#[tactic(auto, unfolding(crate::specs::Reading::cond_at))]
+fn read_cond(tokens: &mut Tokens<'_>, scope: Scope<'_>) -> Result<Instr, ParseError>
+    ensures { Gives result (left tokens.new) (cond_at (scope_in scope.entry) (left tokens.old)) }
+{
+    let test = read_operand(tokens, scope)?;
+    let then_to = read_target(tokens, scope)?;
+    let else_to = read_target(tokens, scope)?;
+    Ok(Instr::Cond {
+        test,
+        then_to,
+        else_to,
+    })
+}
+
+#[tactic(auto, unfolding(crate::specs::Reading::call_at))]
+fn read_call(alloc: Global, tokens: &mut Tokens<'_>, scope: Scope<'_>) -> Result<Instr, ParseError>
+    ensures { Gives result (left tokens.new) (call_at (scope_in scope.entry) (left tokens.old)) }
+{
+    let name = tokens.take();
+    let dest = register(scope, name)?;
+    let _equals = tokens.take();
+    let called = tokens.take();
+    let _paren = tokens.take();
+    let count = count_items(*tokens)?;
+    let function = callee(scope, called, count)?;
+    let args = read_arguments(alloc, tokens, scope, count)?;
+    let _paren = tokens.take();
+    let next = read_target(tokens, scope)?;
+    Ok(Instr::Call {
+        dest,
+        function,
+        args,
+        next,
+    })
+}
+
+#[tactic(auto, unfolding(crate::specs::Reading::return_at))]
+fn read_return(tokens: &mut Tokens<'_>, scope: Scope<'_>) -> Result<Instr, ParseError>
+    ensures { Gives result (left tokens.new) (return_at (scope_in scope.entry) (left tokens.old)) }
+{
+    let value = read_operand(tokens, scope)?;
+    Ok(Instr::Return { value })
+}
+
+#[tactic(auto, unfolding(crate::specs::Reading::print_at))]
+fn read_print(tokens: &mut Tokens<'_>, scope: Scope<'_>) -> Result<Instr, ParseError>
+    ensures { Gives result (left tokens.new) (print_at (scope_in scope.entry) (left tokens.old)) }
+{
+    let value = read_operand(tokens, scope)?;
+    let next = read_target(tokens, scope)?;
+    Ok(Instr::Print { value, next })
+}
+
+#[tactic(auto, unfolding(crate::specs::Reading::load_at))]
+fn read_load(tokens: &mut Tokens<'_>, scope: Scope<'_>) -> Result<Instr, ParseError>
+    ensures { Gives result (left tokens.new) (load_at (scope_in scope.entry) (left tokens.old)) }
+{
+    let name = tokens.take();
+    let dest = register(scope, name)?;
+    let _equals = tokens.take();
+    let _bracket = tokens.take();
+    let address = read_operand(tokens, scope)?;
+    let _bracket = tokens.take();
+    let next = read_target(tokens, scope)?;
+    Ok(Instr::Load {
+        dest,
+        address,
+        next,
+    })
+}
+
+#[tactic(auto, unfolding(crate::specs::Reading::store_at))]
+fn read_store(tokens: &mut Tokens<'_>, scope: Scope<'_>) -> Result<Instr, ParseError>
+    ensures { Gives result (left tokens.new) (store_at (scope_in scope.entry) (left tokens.old)) }
+{
+    let _bracket = tokens.take();
+    let address = read_operand(tokens, scope)?;
+    let _bracket = tokens.take();
+    let _equals = tokens.take();
+    let value = read_operand(tokens, scope)?;
+    let next = read_target(tokens, scope)?;
+    Ok(Instr::Store {
+        address,
+        value,
+        next,
+    })
+}
+
+#[tactic(auto, unfolding(crate::specs::Reading::fail_at))]
+fn read_fail(alloc: Global, tokens: &mut Tokens<'_>) -> Result<Instr, ParseError>
+    ensures { Gives result (left tokens.new) (fail_at (left tokens.old)) }
+{
+    let token = tokens.take();
+    refuse_if(token.text.len() > 64, token, Kind::TooMany)?;
+    let text = text(alloc, token)?;
+    Ok(Instr::Fail { text })
+}
+
+/// An instruction.
+#[tactic(auto, unfolding(crate::specs::Reading::instr_at))]
+pub fn read_instr(
+    alloc: Global,
+    tokens: &mut Tokens<'_>,
+    scope: Scope<'_>,
+) -> Result<Instr, ParseError>
+    ensures { Gives result (left tokens.new) (instr_at (scope_in scope.entry) (left tokens.old)) }
+{
+    let word = tokens.take();
+    match word.terminal {
+        Terminal::Nop => read_nop(tokens, scope),
+        Terminal::Op => read_op(tokens, scope),
+        Terminal::Cond => read_cond(tokens, scope),
+        Terminal::Call => read_call(alloc, tokens, scope),
+        Terminal::Return => read_return(tokens, scope),
+        Terminal::Print => read_print(tokens, scope),
+        Terminal::Load => read_load(tokens, scope),
+        Terminal::Store => read_store(tokens, scope),
+        _ => read_fail(alloc, tokens),
+    }
+}

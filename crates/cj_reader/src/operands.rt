@@ -1,0 +1,118 @@
+//! Registers, operands, expressions and targets.
+
+ghost use Rattle.std.specs.Prelude.{◌≡◌, ◌<◌, length, option_copied, IfSome};
+ghost use Rattle.cj_tokens.specs.Seen.{seen};
+ghost use Rattle.cj_tokens.specs.Left.{left};
+ghost use Rattle.cj_tokens.specs.Lexemes.{front};
+ghost use Rattle.cj_grammar.specs.Reading.{Found, Gives};
+ghost use Rattle.cj_reader.specs.Scopes.{name_place};
+ghost use Rattle.cj_reader.specs.Operands.{is_line_number};
+ghost use Rattle.cj_reader.specs.Known.{scope_in};
+ghost use Rattle.cj_reader.specs.Reading.{register_at, label_at, target_at, operand_at, expr_at, rest_at, operator_of};
+
+use crate::operators::{applied, operator_at};
+use crate::refusals::{refusal, refuse_if};
+use crate::scope::Scope;
+use cj_ir::{Expr, Label, Name, Operand, Reg};
+use cj_tokens::{Kind, Lexeme, ParseError, Terminal, Tokens};
+
+// The place of a name.
+fn name_place(names: &[Name], text: &[u8]) -> Option<usize>
+    ensures place { result ≡ name_place names.now text.now }
+    ensures within { IfSome result (λ place. place < length names.now) }
+{
+    names.iter().position(|name| name.bytes() == text)
+}
+
+/// The register that a NAME is.
+#[tactic(auto, unfolding(crate::specs::Reading::register_at))]
+pub fn register(scope: Scope<'_>, token: Lexeme<'_>) -> Result<Reg, ParseError>
+    ensures { Found result (register_at (scope_in scope.entry) (seen token.entry)) }
+{
+    refuse_if(token.text.len() > 32, token, Kind::TooMany)?;
+    match name_place(scope.registers, token.text) {
+        Some(place) => Ok(Reg(place as u32)),
+        None => Err(refusal(token, Kind::NoRegister)),
+    }
+}
+
+/// Whether lines may have the number.
+pub fn is_line_number(number: i64) -> bool
+    ensures { result ≡ is_line_number number }
+{
+    0 <= number && number <= 65535
+}
+
+/// The label that a NUM is.
+#[tactic(auto, unfolding(crate::specs::Reading::label_at))]
+pub fn label(scope: Scope<'_>, token: Lexeme<'_>) -> Result<Label, ParseError>
+    ensures { Found result (label_at (scope_in scope.entry) (seen token.entry)) }
+{
+    refuse_if(!is_line_number(token.number), token, Kind::Range)?;
+    match scope.labels.place(token.number) {
+        Some(place) => Ok(Label(place)),
+        None => Err(refusal(token, Kind::NoLabel)),
+    }
+}
+
+/// A mark and the label behind it.
+#[tactic(auto, unfolding(crate::specs::Reading::target_at))]
+pub fn read_target(tokens: &mut Tokens<'_>, scope: Scope<'_>) -> Result<Label, ParseError>
+    ensures { Gives result (left tokens.new) (target_at (scope_in scope.entry) (left tokens.old)) }
+{
+    let _mark = tokens.take();
+    let number = tokens.take();
+    label(scope, number)
+}
+
+/// A register or a number.
+#[tactic(auto, unfolding(crate::specs::Reading::operand_at))]
+pub fn read_operand(tokens: &mut Tokens<'_>, scope: Scope<'_>) -> Result<Operand, ParseError>
+    ensures { Gives result (left tokens.new) (operand_at (scope_in scope.entry) (left tokens.old)) }
+{
+    let token = tokens.take();
+    if token.terminal == Terminal::Name {
+        let reg = register(scope, token)?;
+        Ok(Operand::Reg(reg))
+    } else {
+        Ok(Operand::Const(token.number))
+    }
+}
+
+// What stands behind a first operand.
+fn read_rest(tokens: &mut Tokens<'_>, scope: Scope<'_>, first: Operand) -> Result<Expr, ParseError>
+    ensures { let ts = left tokens.old in
+        Gives result (left tokens.new) (rest_at (scope_in scope.entry) first ts (operator_of (front ts).terminal)) }
+{
+    match operator_at(tokens.peek()) {
+        None => Ok(Expr::Copy(first)),
+        Some(operator) => {
+            let _mark = tokens.take();
+            let right = read_operand(tokens, scope)?;
+            Ok(applied(operator, first, right))
+        }
+    }
+}
+
+/// An expression.
+#[tactic(auto, unfolding(crate::specs::Reading::expr_at))]
+pub fn read_expr(tokens: &mut Tokens<'_>, scope: Scope<'_>) -> Result<Expr, ParseError>
+    ensures { Gives result (left tokens.new) (expr_at (scope_in scope.entry) (left tokens.old)) }
+{
+    match tokens.peek() {
+        Terminal::Neg => {
+            let _word = tokens.take();
+            let value = read_operand(tokens, scope)?;
+            Ok(Expr::Neg(value))
+        }
+        Terminal::Eqz => {
+            let _word = tokens.take();
+            let value = read_operand(tokens, scope)?;
+            Ok(Expr::Eqz(value))
+        }
+        _ => {
+            let first = read_operand(tokens, scope)?;
+            read_rest(tokens, scope, first)
+        }
+    }
+}

@@ -1,0 +1,57 @@
+//! Names and texts from their tokens.
+
+ghost use Rattle.std.specs.Prelude.{◌≡◌, ◌≤◌, ◌||◌, nat_le, length, true};
+ghost use Rattle.std.specs.List.{list_all};
+ghost use Rattle.cj_ir.specs.Texts.{is_text_byte};
+ghost use Rattle.cj_tokens.specs.Words.{is_free_word};
+ghost use Rattle.cj_tokens.specs.Seen.{seen};
+ghost use Rattle.cj_tokens.specs.declared.terminal.Terminal.TheVariants as terminal;
+ghost use Rattle.cj_grammar.specs.Reading.{Found};
+ghost use Rattle.cj_reader.specs.Operands.{is_long};
+ghost use Rattle.cj_reader.specs.Reading.{word_at, text_at};
+
+use crate::memory::remembered;
+use crate::refusals::refusal;
+use cj_ir::{Name, Text};
+use cj_tokens::{Kind, Lexeme, ParseError, Terminal};
+use std::alloc::Global;
+
+/// Whether a NAME has more than 32 bytes, or stands behind as many as there may be.
+pub fn is_too_many(token: Lexeme<'_>, limit: usize, count: usize) -> bool
+    ensures { result ≡ (is_long (seen token.entry) || nat_le limit count) }
+{
+    let long = token.text.len() > 32;
+    long || limit <= count
+}
+
+/// The name that a token of at most 32 bytes is.
+#[tactic(auto, unfolding(crate::specs::Reading::word_at))]
+pub fn word(alloc: Global, token: Lexeme<'_>) -> Result<Name, ParseError>
+    requires free { token.terminal ≡ terminal.Name → is_free_word token.text.now ≡ true }
+    requires short { length token.text.now ≤ 32 }
+    ensures { Found result (word_at (seen token.entry)) }
+{
+    if token.terminal != Terminal::Name {
+        return Err(refusal(token, Kind::Syntax));
+    }
+    match remembered(Name::of(alloc, token.text))? {
+        Some(name) => Ok(name),
+        None => unreachable!(),
+    }
+}
+
+/// The text that a token of at most 64 bytes is.
+#[tactic(auto, unfolding(crate::specs::Reading::text_at))]
+pub fn text(alloc: Global, token: Lexeme<'_>) -> Result<Text, ParseError>
+    requires printable { token.terminal ≡ terminal.Text → list_all is_text_byte token.text.now ≡ true }
+    requires short { length token.text.now ≤ 64 }
+    ensures { Found result (text_at (seen token.entry)) }
+{
+    if token.terminal != Terminal::Text {
+        return Err(refusal(token, Kind::Syntax));
+    }
+    match remembered(Text::of(alloc, token.text))? {
+        Some(text) => Ok(text),
+        None => unreachable!(),
+    }
+}
