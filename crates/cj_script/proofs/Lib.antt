@@ -1,0 +1,11 @@
+pub mod Naming
+pub mod Turns
+pub mod CallTurns
+pub mod SetupTurns
+pub mod Fails
+pub mod BegunReads
+pub mod Offences
+pub mod CallsReads
+pub mod SetupsReads
+pub mod ScriptReads
+pub mod ScriptFits

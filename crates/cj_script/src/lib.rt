@@ -1,0 +1,14 @@
+//! The script of a text, read behind its program.
+#![tactic(auto)]
+
+mod begun;
+mod calls;
+mod judge;
+mod places;
+mod script;
+mod setups;
+#[cfg(test)]
+mod tests;
+
+pub use begun::read_begun;
+pub use script::read_script;
