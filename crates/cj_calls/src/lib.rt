@@ -1,0 +1,8 @@
+//! Reports of calls, and their text.
+#![tactic(auto)]
+
+pub mod report;
+pub mod text;
+
+pub use report::{Look, Looks, Note, Notes, Report, Reports};
+pub use text::text_of;
