@@ -1,0 +1,182 @@
+-- A top call's answer from its two halves.
+use Rattle.std.proofs.Common.{◌≡◌, ◌∙◌, sym, subst, refl, ℕ, ◌+◌, ◌<◌, ◌≤◌, List, [], ◌++◌, length, take, Option, Some, None, Result, Ok, Err, inl, inr, append-nil, arith}
+use Rattle.std.specs.Prelude.{◌≢◌, ◌⊎◌, IfSome}
+use Rattle.std.specs.Io.KnownBytes.{Appends, IsAtEnd}
+use Rattle.cj_ir.specs.declared.script.Input.{Input}
+use Rattle.cj_tokens.specs.declared.refusal.Refused.{Refused}
+use Rattle.cj_io.specs.Faults.{Rose}
+use Rattle.cj_io.specs.Reading.{GaveMore}
+use Rattle.cj_text.specs.Reads.{Reads}
+use Rattle.cj_driver.specs.Outside.{Outside, outside, longest, AreWhole, WasRead, ToldWhole, ToldMore}
+use Rattle.cj_driver.specs.Answers.{Owes, HasAnswer, IsStop, TopStands, IsStatus, WasRefused, HasCauses, IsCalm, IsComplete, Answers}
+use Rattle.cj_driver.specs.Steps.{StopStands, Finishes, StopFinishes}
+use Rattle.cj_driver.specs.declared.command.Command.{Command}
+use Rattle.cj_driver.specs.declared.finish.Finish.{Finish}
+use Rattle.cj_driver.specs.declared.reading.Stop.{Stop}
+use Rattle.cj_driver.specs.declared.reading.Stop.TheVariants as stop
+
+-- a sink that was not touched took nothing
+took_nothing : (known : Option (List ℕ)) → Appends known known []
+took_nothing None = tt
+took_nothing (Some bytes) = sym (append-nil bytes)
+
+-- ---- what reading told
+
+-- the bytes that were read are those that were there
+same_bytes : (given left : Option (List ℕ)) (bytes known : List ℕ) → AreWhole given left bytes → given ≡ Some known → bytes ≡ known
+same_bytes given left bytes known whole is =
+    let P : Option (List ℕ) → Type 0 = λ g. IfSome g (λ k. bytes ≡ k) in
+    subst P is whole.all
+
+-- known bytes have one reading
+one_reading : (given left : Option (List ℕ)) (answer other : Result Input Refused) (known : List ℕ) → WasRead given left answer → given ≡ Some known → Reads known other → other ≡ answer
+one_reading given left answer other known read is reads =
+    let same : known ≡ read.bytes = sym (same_bytes given left read.bytes known read.whole is) in
+    let P : List ℕ → Type 0 = λ bytes. Reads bytes other in
+    read.only other (subst P same reads)
+
+-- what was read whole was not too long
+not_more : (given left : Option (List ℕ)) (bytes : List ℕ) (known rest : List ℕ) → AreWhole given left bytes → given ≡ Some known → longest + length rest < length known → ⊥
+not_more given left bytes known rest whole is more =
+    let same : bytes ≡ known = same_bytes given left bytes known whole is in
+    let P : List ℕ → Type 0 = λ b. length b ≤ longest in
+    let short : length known ≤ longest = subst P same whole.short in
+    omega arith
+
+-- what was too long is longer than the longest input
+longer : (given left : Option (List ℕ)) (known : List ℕ) → GaveMore given left longest → given ≡ Some known → longest < length known
+longer given None known more is =
+    let P : Option (List ℕ) → Type 0 = λ g. GaveMore g None longest in
+    absurd (subst P is more)
+longer given (Some rest) known more is =
+    let P : Option (List ℕ) → Type 0 = λ g. GaveMore g (Some rest) longest in
+    let gave : longest + length rest < length known = subst P is more in omega arith
+
+-- ---- an input was read
+
+zero_five_six : (s : ℕ) → (s ≡ 0) ⊎ (s ≡ 5) ⊎ (s ≡ 6) → s ≢ 0 → s ≢ 5 → s ≡ 6
+zero_five_six s (inl e) no_zero no_five = absurd (no_zero e)
+zero_five_six s (inr (inl e)) no_zero no_five = absurd (no_five e)
+zero_five_six s (inr (inr e)) no_zero no_five = e
+
+is_status : (s : ℕ) → (s ≡ 0) ⊎ (s ≡ 5) ⊎ (s ≡ 6) → IsStatus s
+is_status s (inl e) = inl e
+is_status s (inr (inl e)) = inr (inr (inr (inl e)))
+is_status s (inr (inr e)) = inr (inr (inr (inr (inl e))))
+
+-- another status than these three does not come
+never : {A : Type 0} (s n : ℕ) → (s ≡ 0) ⊎ (s ≡ 5) ⊎ (s ≡ 6) → s ≡ n → n ≢ 0 → n ≢ 5 → n ≢ 6 → A
+never s n (inl e) is a b c = absurd (a (sym is ∙ e))
+never s n (inr (inl e)) is a b c = absurd (b (sym is ∙ e))
+never s n (inr (inr e)) is a b c = absurd (c (sym is ∙ e))
+
+-- done, or want of memory, where a write fault did not come
+done_or_six : (s : ℕ) → (s ≡ 0) ⊎ (s ≡ 5) ⊎ (s ≡ 6) → (s ≡ 5 → ⊥) → (s ≡ 0) ⊎ (s ≡ 6)
+done_or_six s (inl e) no_five = inl e
+done_or_six s (inr (inl e)) no_five = absurd (no_five e)
+done_or_six s (inr (inr e)) no_five = inr e
+
+read_stands : (c : Command) (i : Input) (o : Outside) (f : Finish) → WasRead o.given o.left (Ok i) → Finishes c i o.had o.has o.write_faults o.write_faults_now f → TopStands c o f
+read_stands c i o f read fin = record {
+  done = λ s. let owed = fin.done s in (owed.0, record { input = i; read = read; owes = owed.1 }, owed.2);
+  cut = λ s. let owed = fin.cut s in (owed.0, owed.1, record { input = i; read = read; owes = owed.2 }, owed.3);
+  stop = λ a b. let none = fin.none (zero_five_six f.status fin.some a b) in record { nothing = none.1; reports = none.0 };
+}
+
+read_causes : (c : Command) (i : Input) (o : Outside) (f : Finish) → WasRead o.given o.left (Ok i) → Finishes c i o.had o.has o.write_faults o.write_faults_now f → HasCauses o f
+read_causes c i o f read fin = record {
+  some = is_status f.status fin.some;
+  refused = λ s. never f.status 3 fin.some s (omega arith) (omega arith) (omega arith);
+  refused_alone = λ s. fin.refused;
+  refused_owed = λ bytes r told reads not_four. let same : Err r ≡ Ok i = one_reading o.given o.left (Ok i) (Err r) bytes read told.given reads in cc;
+  read = λ s. never f.status 4 fin.some s (omega arith) (omega arith) (omega arith);
+  write = fin.fault;
+  long = λ s. never f.status 7 fin.some s (omega arith) (omega arith) (omega arith);
+  long_owed = λ told not_four. absurd (not_more o.given o.left read.bytes told.bytes told.rest read.whole told.given told.more);
+}
+
+pub read_answers : (c : Command) (i : Input) (o : Outside) (f : Finish) → WasRead o.given o.left (Ok i) → Finishes c i o.had o.has o.write_faults o.write_faults_now f → Answers c o f
+read_answers c i o f read fin = record {
+  headline = read_stands c i o f read fin;
+  causes = read_causes c i o f read fin;
+  complete = λ calm. done_or_six f.status fin.some (λ s. calm.no_write_fault (fin.fault s));
+}
+
+-- ---- no input was read
+
+stop_stands : (c : Command) (o : Outside) (f : Finish) → Appends o.had o.has [] → f.reports ≡ [] → f.status ≢ 0 → f.status ≢ 5 → TopStands c o f
+stop_stands c o f nothing reports no_zero no_five = record {
+  done = λ s. absurd (no_zero s);
+  cut = λ s. absurd (no_five s);
+  stop = λ a b. record { nothing = nothing; reports = reports };
+}
+
+-- a status is one number
+apart : {A : Type 0} (s m n : ℕ) → s ≡ m → s ≡ n → m ≢ n → A
+apart s m n a b differ = absurd (differ (sym a ∙ b))
+
+stop_answers : (c : Command) (o : Outside) (s : Stop) (f : Finish) → Appends o.had o.has [] → StopStands o.given o.left o.read_faults o.read_faults_now s → StopFinishes s f → Answers c o f
+stop_answers c o (stop.Refused r) f nothing stands fin = record {
+  headline = stop_stands c o f nothing fin.reports (λ e. apart f.status 3 0 fin.status e (omega arith)) (λ e. apart f.status 3 5 fin.status e (omega arith));
+  causes = record {
+    some = inr (inl fin.status);
+    refused = λ e. record { refused = r; told = fin.refused; read = stands };
+    refused_alone = λ no. absurd (no fin.status);
+    refused_owed = λ bytes x told reads not_four. inl fin.status;
+    read = λ e. apart f.status 3 4 fin.status e (omega arith);
+    write = λ e. apart f.status 3 5 fin.status e (omega arith);
+    long = λ e. apart f.status 3 7 fin.status e (omega arith);
+    long_owed = λ told not_four. absurd (not_more o.given o.left stands.bytes told.bytes told.rest stands.whole told.given told.more);
+  };
+  complete = λ calm. let same : Ok calm.input ≡ Err r = one_reading o.given o.left (Err r) (Ok calm.input) calm.bytes stands calm.given calm.reads in cc;
+}
+stop_answers c o stop.ReadFault f nothing stands fin = record {
+  headline = stop_stands c o f nothing fin.reports (λ e. apart f.status 4 0 fin.status e (omega arith)) (λ e. apart f.status 4 5 fin.status e (omega arith));
+  causes = record {
+    some = inr (inr (inl fin.status));
+    refused = λ e. apart f.status 4 3 fin.status e (omega arith);
+    refused_alone = λ no. fin.refused;
+    refused_owed = λ bytes x told reads not_four. absurd (not_four fin.status);
+    read = λ e. stands;
+    write = λ e. apart f.status 4 5 fin.status e (omega arith);
+    long = λ e. apart f.status 4 7 fin.status e (omega arith);
+    long_owed = λ told not_four. absurd (not_four fin.status);
+  };
+  complete = λ calm. absurd (calm.no_read_fault stands);
+}
+stop_answers c o stop.TooLong f nothing stands fin = record {
+  headline = stop_stands c o f nothing fin.reports (λ e. apart f.status 7 0 fin.status e (omega arith)) (λ e. apart f.status 7 5 fin.status e (omega arith));
+  causes = record {
+    some = inr (inr (inr (inr (inr fin.status))));
+    refused = λ e. apart f.status 7 3 fin.status e (omega arith);
+    refused_alone = λ no. fin.refused;
+    refused_owed = λ bytes x told reads not_four. let more : longest < length bytes = longer o.given o.left bytes stands told.given in absurd (too_short bytes told.short more);
+    read = λ e. apart f.status 7 4 fin.status e (omega arith);
+    write = λ e. apart f.status 7 5 fin.status e (omega arith);
+    long = λ e. stands;
+    long_owed = λ told not_four. inl fin.status;
+  };
+  complete = λ calm. let more : longest < length calm.bytes = longer o.given o.left calm.bytes stands calm.given in absurd (too_short calm.bytes calm.short more);
+}
+  where
+    too_short : (bytes : List ℕ) → length bytes ≤ longest → longest < length bytes → ⊥
+    too_short bytes short more = omega arith
+stop_answers c o stop.NoMemory f nothing stands fin = record {
+  headline = stop_stands c o f nothing fin.reports (λ e. apart f.status 6 0 fin.status e (omega arith)) (λ e. apart f.status 6 5 fin.status e (omega arith));
+  causes = record {
+    some = inr (inr (inr (inr (inl fin.status))));
+    refused = λ e. apart f.status 6 3 fin.status e (omega arith);
+    refused_alone = λ no. fin.refused;
+    refused_owed = λ bytes x told reads not_four. inr fin.status;
+    read = λ e. apart f.status 6 4 fin.status e (omega arith);
+    write = λ e. apart f.status 6 5 fin.status e (omega arith);
+    long = λ e. apart f.status 6 7 fin.status e (omega arith);
+    long_owed = λ told not_four. inr fin.status;
+  };
+  complete = λ calm. inr fin.status;
+}
+
+-- a call that stopped before it touched the sink
+pub stopped : (c : Command) (given left had : Option (List ℕ)) (faults faults_now writes : ℕ) (s : Stop) (f : Finish) → StopStands given left faults faults_now s → StopFinishes s f → Answers c (outside given left had had faults faults_now writes writes) f
+stopped c given left had faults faults_now writes s f stands fin =
+    stop_answers c (outside given left had had faults faults_now writes writes) s f (took_nothing had) stands fin

@@ -1,0 +1,5 @@
+pub mod Commands
+pub mod Outside
+pub mod Answers
+pub mod Steps
+pub mod Lines

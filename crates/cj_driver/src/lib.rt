@@ -1,0 +1,18 @@
+//! The top calls: from the words of a command line, a source and a sink to reports and a status.
+#![tactic(auto)]
+
+pub mod calls;
+pub mod command;
+pub mod finish;
+pub mod jobs;
+pub mod lines;
+pub mod reading;
+pub mod top;
+
+pub use command::Command;
+pub use finish::Finish;
+pub use lines::fault_line;
+pub use top::top_alone;
+
+#[cfg(test)]
+mod tests;

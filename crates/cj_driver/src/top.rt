@@ -1,0 +1,92 @@
+//! The top call.
+
+ghost use Rattle.std.specs.Prelude.{◌≡◌, map};
+ghost use Rattle.std.specs.String.{string_bytes};
+ghost use Rattle.cj_script.specs.Fitting.{FitsScript};
+ghost use Rattle.cj_driver.specs.Commands.{command_of};
+ghost use Rattle.cj_driver.specs.Outside.{outside};
+ghost use Rattle.cj_driver.specs.Answers.{Answers, ByWords};
+ghost use Rattle.cj_driver.specs.Steps.{Finishes, StopFinishes};
+
+use crate::command::Command;
+use crate::finish::Finish;
+use crate::jobs::perform;
+use crate::reading::{Stop, read_input};
+use cj_io::{Sink, Source, write_whole};
+use cj_ir::{Input, NoMemory};
+use std::alloc::Global;
+
+/// Reads an input from the source, does what the words ask, and writes the text to the sink.
+///
+/// The words are one of the forms `alone` and `format`. Nothing is written before all runs have ended, so every
+/// status but 0 and 5 has written nothing.
+///
+/// With status 0 the source was read to its end, and the sink took the whole text; with 5, write fault, a prefix
+/// of it. For `alone` there is one report for each call of the script, in order: its prints are those of the base
+/// run after the report's count of base turns, its end is that run's, and the turn limit is answered exactly
+/// where as many turns were made as the call allows and that run goes on.
+///
+/// The other statuses: 2 exactly where the words are no form; 3 exactly where the bytes are no input, with the
+/// first offence in `refused`; 4 only where the source's count of faults rose; 5 only where the sink's did; 7
+/// exactly where the source gave more than 4,194,304 bytes; 6 where memory was wanted, at any time. Where the
+/// bytes are an input and no fault is counted, the status is 0 or 6.
+pub fn top_alone<S: Source, K: Sink>(
+    alloc: Global,
+    words: &[String],
+    source: &mut S,
+    sink: &mut K,
+) -> Finish
+    ensures { ByWords (command_of (map string_bytes words.now)) (outside (S.left source.old) (S.left source.new) (K.written sink.old) (K.written sink.new) (S.faults source.old) (S.faults source.new) (K.faults sink.old) (K.faults sink.new)) result }
+{
+    match Command::of(words) {
+        Some(command) => answer(alloc, command, source, sink),
+        None => Finish::stopped(alloc, 2, None),
+    }
+}
+
+/// What a command answers.
+fn answer<S: Source, K: Sink>(
+    alloc: Global,
+    command: Command,
+    source: &mut S,
+    sink: &mut K,
+) -> Finish
+    ensures { Answers command (outside (S.left source.old) (S.left source.new) (K.written sink.old) (K.written sink.new) (S.faults source.old) (S.faults source.new) (K.faults sink.old) (K.faults sink.new)) result }
+{
+    match read_input(alloc, source) {
+        Ok(input) => finish_input(alloc, command, &input, sink),
+        Err(stop) => finish_stop(alloc, stop),
+    }
+}
+
+/// How a call ends where no input was read.
+fn finish_stop(alloc: Global, stop: Stop) -> Finish
+    ensures { StopFinishes stop result }
+{
+    match stop {
+        Stop::Refused(refused) => Finish::stopped(alloc, 3, Some(refused)),
+        Stop::ReadFault => Finish::stopped(alloc, 4, None),
+        Stop::TooLong => Finish::stopped(alloc, 7, None),
+        Stop::NoMemory => Finish::stopped(alloc, 6, None),
+    }
+}
+
+/// Does what the command asks of the input, and writes the text.
+fn finish_input<K: Sink>(alloc: Global, command: Command, input: &Input, sink: &mut K) -> Finish
+    requires { FitsScript input.now.checked input.now.script }
+    ensures { Finishes command input.now (K.written sink.old) (K.written sink.new) (K.faults sink.old) (K.faults sink.new) result }
+{
+    let answer = match perform(alloc, command, input) {
+        Ok(answer) => answer,
+        Err(NoMemory) => return Finish::stopped(alloc, 6, None),
+    };
+    let status = match write_whole(sink, &answer.text) {
+        Ok(()) => 0,
+        Err(_fault) => 5,
+    };
+    Finish {
+        status,
+        refused: None,
+        reports: answer.reports,
+    }
+}
