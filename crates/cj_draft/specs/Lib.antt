@@ -1,0 +1,9 @@
+pub mod Points
+pub mod Effects
+pub mod WellNamed
+pub mod Arrives
+pub mod Sound
+pub mod Relabel
+pub mod BaseBody
+pub mod Bodies
+pub mod Inlining

@@ -1,0 +1,24 @@
+//! Drafts and versions: rewritten bodies of a function, and what makes one sound.
+#![tactic(auto)]
+
+pub mod base_body;
+pub mod code;
+pub mod drafts;
+pub mod facts;
+pub mod frames;
+pub mod instructions;
+pub mod laws;
+pub mod passes;
+pub mod points;
+pub mod versions;
+
+pub use code::{Back, Backs, Code, Place, Places};
+pub use drafts::Draft;
+pub use facts::{Fact, FactList, FactTable, Facts};
+pub use instructions::{Pair, Pairs, VInstr};
+pub use passes::{Pass, Passes, Room, Skipped, Skips};
+pub use points::{Frames, Point, PointFrame};
+pub use versions::Version;
+
+#[cfg(test)]
+mod tests;
