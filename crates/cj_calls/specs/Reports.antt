@@ -1,14 +1,11 @@
 -- What a report owes to the base run of its call.
-use Rattle.std.specs.Prelude.{◌≡◌, ℕ, ◌+◌, ◌*◌, ◌≤◌, ℤ, List, [], ◌∷◌, Contains}
-use Rattle.std.specs.List.{AllZip}
+use Rattle.std.specs.Prelude.{◌≡◌, ℕ, ◌+◌, ◌*◌, ◌≤◌, ℤ, List, Contains}
 use Rattle.cj_ir.specs.declared.language.Program.{Program}
-use Rattle.cj_ir.specs.declared.script.ScriptCall.{ScriptCall}
 use Rattle.cj_base.specs.declared.machine.End.{End}
 use Rattle.cj_base.specs.declared.machine.End.TheVariants.{Returned, Failed, Address, Divide, TurnLimit}
 use Rattle.cj_base.specs.declared.machine.Waiting.{Waiting}
 use Rattle.cj_base.specs.Machine.{Stack, over}
-use Rattle.cj_base.specs.Run.{Begun, begun, base_run, Over, RunAt, GoesOn, EndStands}
-use Rattle.cj_calls.specs.declared.report.Look.{Look}
+use Rattle.cj_base.specs.Run.{Begun, base_run, Over, RunAt, GoesOn, EndStands}
 use Rattle.cj_calls.specs.declared.report.Note.{Note}
 use Rattle.cj_calls.specs.declared.report.Report.{Report}
 
@@ -45,20 +42,3 @@ IsWhole P call r =
     base_run P call n ≡ Over printed by n →
     45 * (n + 1) ≤ call.limit →
     (r.printed ≡ printed) × (r.end ≡ by)
-
--- a report of the base machine alone: its turns are base turns, and the one lookup found the base body
-pub record IsPlain (call : ScriptCall) (r : Report) : Type 0 where
-  pub turns : r.turns ≡ r.base_turns
-  pub fails : r.fails ≡ 0
-  pub notes : r.notes ≡ []
-  pub looks : r.looks ≡ record { function = call.function; offset = 0 } ∷ []
-
--- what the base machine alone reports of a call of a script
-pub record IsReportOf (P : Program) (call : ScriptCall) (r : Report) : Type 0 where
-  pub headline : ReportStands P (begun call) r
-  pub whole : IsWhole P (begun call) r
-  pub plain : IsPlain call r
-
--- one report for each call, in order
-abbrev pub AreReportsOf : Program → List ScriptCall → List Report → Type 0
-AreReportsOf P calls reports = AllZip (IsReportOf P) calls reports

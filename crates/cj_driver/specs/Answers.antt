@@ -6,7 +6,7 @@ use Rattle.cj_text.specs.Reads.{Reads}
 use Rattle.cj_printer.specs.Canonical.{input_text}
 use Rattle.cj_calls.specs.declared.report.Report.{Report}
 use Rattle.cj_calls.specs.Output.{reports_text}
-use Rattle.cj_calls.specs.Reports.{AreReportsOf}
+use Rattle.cj_driver.specs.Calls.{AreReportsOf}
 use Rattle.cj_driver.specs.Outside.{Outside, Took, WasRead, ToldWhole, ToldMore, TookMore, ReadRose, WriteRose, longest}
 use Rattle.cj_driver.specs.declared.command.Command.{Command}
 use Rattle.cj_driver.specs.declared.command.Command.TheVariants.{Alone, Format}

@@ -1,4 +1,6 @@
 pub mod Commands
+pub mod Bodies
+pub mod Calls
 pub mod Outside
 pub mod Answers
 pub mod Steps

@@ -1,12 +1,14 @@
-//! The calls of a script, on the base machine.
+//! The calls of a script.
 
-ghost use Rattle.std.specs.Prelude.{◌≡◌, length, IfOk};
+ghost use Rattle.std.specs.Prelude.{◌≡◌, ◌≤◌, length, IfOk};
 ghost use Rattle.cj_ir.specs.WellFormed.{Takes};
-ghost use Rattle.cj_calls.specs.Reports.{IsReportOf, AreReportsOf};
+ghost use Rattle.cj_driver.specs.Calls.{IsReportOf, AreReportsOf};
 ghost use Rattle.cj_script.specs.Fitting.{FitsScript};
 
-use cj_base::run;
-use cj_calls::{Look, Looks, Notes, Report, Reports};
+use crate::bodies::BaseBodies;
+use cj_calls::{Report, Reports};
+use cj_engine::laws::plain_looks_give_plain_reports;
+use cj_engine::run;
 use cj_ir::{Checked, Input, NoMemory, ScriptCall};
 use std::alloc::Global;
 
@@ -23,24 +25,14 @@ pub fn run_calls(alloc: Global, input: &Input) -> Result<Reports, NoMemory>
     Ok(reports)
 }
 
-/// The report of a call, which looks its function up once and finds the base body.
+/// The report of a call, each of whose lookups finds the base body.
 fn run_call(alloc: Global, checked: &Checked, call: &ScriptCall) -> Result<Report, NoMemory>
-    requires { Takes checked.now.functions call.now.function (length call.now.args) }
+    requires takes { Takes checked.now.functions call.now.function (length call.now.args) }
+    requires limit { (1 ≤ call.now.limit) × (call.now.limit ≤ 1000000) }
     ensures { IfOk result (IsReportOf checked.now call.now) }
 {
-    let mut looks = Looks::new(alloc);
-    looks.push(Look {
-        function: call.function,
-        offset: 0,
-    })?;
-    let outcome = run(alloc, checked, call)?;
-    Ok(Report {
-        printed: outcome.printed,
-        end: outcome.end,
-        turns: outcome.turns,
-        base_turns: outcome.turns,
-        fails: 0,
-        notes: Notes::new(alloc),
-        looks,
-    })
+    let mut watch = BaseBodies::of(alloc, checked);
+    let report = run(alloc, checked, call, &mut watch)?;
+    plain_looks_give_plain_reports();
+    Ok(report)
 }

@@ -1,6 +1,7 @@
 //! The top calls: from the words of a command line, a source and a sink to reports and a status.
 #![tactic(auto)]
 
+mod bodies;
 pub mod calls;
 pub mod command;
 pub mod finish;
@@ -14,5 +15,7 @@ pub use finish::Finish;
 pub use lines::fault_line;
 pub use top::top_alone;
 
+#[cfg(test)]
+mod limits;
 #[cfg(test)]
 mod tests;

@@ -72,7 +72,7 @@ fn command_line(alloc: Global, words: &[&str]) -> Result<Vec<String>, AllocError
 }
 
 // Checks what is written for an input, the line of the status behind it, by a source and a sink that never fail.
-fn check(
+pub(crate) fn check(
     rt: &impl Abort,
     alloc: Global,
     word: &str,

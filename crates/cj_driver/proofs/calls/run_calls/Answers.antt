@@ -1,4 +1,4 @@
-use Rattle.cj_calls.specs.Reports.{IsReportOf}
+use Rattle.cj_driver.specs.Calls.{IsReportOf}
 use Rattle.cj_driver.proofs.Zips.{AllZip-more}
 use Rattle.cj_driver.proofs.calls.run_calls.Goals as goal
 

@@ -1,6 +1,6 @@
 use Rattle.std.proofs.Common.{take}
 use Rattle.std.specs.List.{AllZip}
-use Rattle.cj_calls.specs.Reports.{IsReportOf}
+use Rattle.cj_driver.specs.Calls.{IsReportOf}
 use Rattle.cj_driver.proofs.calls.run_calls.Given as goal
 
 abbrev pub invariant-loop-call : goal.invariant-loop-call

@@ -1,0 +1,3 @@
+pub mod Activations
+pub mod Windows
+pub mod Changes

@@ -1,0 +1,11 @@
+pub mod Passing
+pub mod Marks
+pub mod Searching
+pub mod Tables
+pub mod Keeping
+pub mod Closed
+pub mod LoweringSound
+pub mod Unique
+pub mod AnchorSound
+pub mod AnchorSteps
+pub mod UniqueAnchors

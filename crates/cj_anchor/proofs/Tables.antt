@@ -1,0 +1,48 @@
+-- Tables of labels, as they are filled.
+use Rattle.std.proofs.Common.{◌≡◌, ℕ, ◌+◌, ◌<◌, Bool, List, [], ◌∷◌, ◌++◌, get_or, take, Some, refl, sym, ap, ◌∙◌, subst, ⊎_elim, arith, length-append}
+use Rattle.std.specs.Prelude.{slice_get, count_by}
+use Rattle.std.proofs.lemmas.Option.{get_or_from_slice_get}
+use Rattle.std.proofs.lemmas.Bool.{cases_eq}
+use Rattle.cj_ir.specs.declared.language.Label.{Label}
+use Rattle.cj_draft.specs.declared.code.Code.{Code}
+use Rattle.cj_anchor.specs.Lowering.{passed, renumbered, led}
+use Rattle.cj_anchor.specs.Search.{IsTable, given}
+use Rattle.cj_rows.proofs.ListReads.{get-append_left, get-append_end}
+
+unfoldable pub numbered : ℕ → Label
+numbered n = record { 0 = n }
+
+pub table_none : (f : Label → Label) → IsTable f 0 []
+table_none f = record { count = refl; at = λ x h. absurd (omega arith) }
+
+pub table_more : (f : Label → Label) (n : ℕ) (table : List Label) (x y : Label) → IsTable f n table → x.0 ≡ n → y ≡ f x → IsTable f (n + 1) (table ++ y ∷ [])
+table_more f n table x y t e is = record {
+  count = length-append table (y ∷ []) ∙ ap (λ k. k + 1) t.count;
+  at = λ z h. ⊎_elim
+      (λ same.
+      let here : slice_get (table ++ y ∷ []) z.0 ≡ Some y = subst (λ k. slice_get (table ++ y ∷ []) k ≡ Some y) (t.count ∙ sym same) (get-append_end table y) in
+      here ∙ ap Some (is ∙ ap f (label_is x z (e ∙ sym same))))
+      (λ other. let less : z.0 < n = omega arith in get-append_left table (y ∷ []) z.0 (f z) (t.at z less))
+      (cases_eq z.0 n);
+}
+  where
+    label_is : (a b : Label) → a.0 ≡ b.0 → a ≡ b
+    label_is a b e = ap (λ (k : ℕ). label k) e
+      where
+        label : ℕ → Label
+        label k = record { 0 = k }
+
+pub numbers_more : (kept : List Bool) (n number : ℕ) (labels : List Label) → IsTable (renumbered kept) n labels → number ≡ count_by (λ keeps. keeps) (take n kept) → IsTable (renumbered kept) (n + 1) (labels ++ numbered number ∷ [])
+unfolding renumbered numbered
+numbers_more kept n number labels t e =
+    table_more (renumbered kept) n labels (numbered n) (numbered number) t refl (ap numbered e)
+
+pub led_labels_more : (code : Code) (kept : List Bool) (numbers labels : List Label) (m n : ℕ) (to d : Label) → IsTable (renumbered kept) m numbers → to ≡ passed code (numbered n) → to.0 < m → IsTable (led code kept) n labels → IsTable (led code kept) (n + 1) (labels ++ get_or numbers to.0 d ∷ [])
+unfolding numbered led
+led_labels_more code kept numbers labels m n to d numbers_are e h t =
+    table_more (led code kept) n labels (numbered n) (get_or numbers to.0 d) t refl
+    (get_or_from_slice_get numbers to.0 (renumbered kept to) d (numbers_are.at to h) ∙ ap (renumbered kept) e)
+
+pub given_in : (f : Label → Label) (n : ℕ) (table : List Label) (x : Label) → IsTable f n table → x.0 < n → given table x ≡ f x
+unfolding given
+given_in f n table x t h = get_or_from_slice_get table x.0 (f x) x (t.at x h)

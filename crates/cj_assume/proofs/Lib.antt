@@ -1,0 +1,4 @@
+pub mod Conditions
+pub mod AssumeRows
+pub mod AssumeSound
+pub mod AssumedGuards

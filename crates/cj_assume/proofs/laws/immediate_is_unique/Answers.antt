@@ -1,0 +1,5 @@
+use Rattle.std.proofs.Common.{◌∙◌, sym}
+use Rattle.cj_assume.proofs.laws.immediate_is_unique.Goals as goal
+
+pub returns : goal.returns
+returns c = c.requires.one ∙ sym c.requires.other

@@ -1,0 +1,12 @@
+//! Assumes on drafts.
+#![tactic(auto)]
+
+pub mod assumes;
+pub mod laws;
+pub mod offences;
+pub mod places;
+
+pub use assumes::immediate;
+
+#[cfg(test)]
+mod tests;

@@ -1,0 +1,137 @@
+//! Why an Assume can't stand directly after an Anchor.
+
+ghost use Rattle.std.specs.Prelude.{◌≡◌, ◌+◌, ◌≤◌, length};
+ghost use Rattle.cj_assume.specs.ImmediateAssume.{anchor_next, anchor_at, guards_at, guard_offence, register_offence, told, guards_offence, full_offence, assume_offence};
+
+use cj_draft::{Code, Room, Skipped, VInstr};
+use cj_ir::{Guard, Label};
+use cj_rows::{fresh_row, room_offence};
+
+/// Guards of an Assume, at most.
+const MAX_GUARDS: usize = 8;
+
+/// Why no Assume with these guards stands directly after the Anchor: the first of the conditions that holds.
+#[tactic(auto, unfolding(crate::specs::ImmediateAssume::assume_offence, crate::specs::ImmediateAssume::offence_at, crate::specs::ImmediateAssume::offence_after, crate::specs::ImmediateAssume::or_next))]
+pub(crate) fn assume_offence(code: &Code, anchor: Label, guards: &[Guard]) -> Option<Skipped>
+    requires { length code.now.places ≤ 512 }
+    ensures { result ≡ assume_offence code.now anchor guards.now }
+{
+    let Some(place) = code.places.items().get(anchor.0 as usize) else {
+        return Some(Skipped::NoPlace { label: anchor });
+    };
+    let Some(next) = anchor_next(&place.instr) else {
+        return Some(Skipped::NotAnchor { label: anchor });
+    };
+    if let Some(skipped) = register_offence(code.regs, guards) {
+        return Some(skipped);
+    }
+    full_offence(code, anchor, guards.len(), guards_at(code, next))
+}
+
+/// The next label of an Anchor.
+#[tactic(auto, unfolding(crate::specs::ImmediateAssume::anchor_next))]
+fn anchor_next(instr: &VInstr) -> Option<Label>
+    ensures { result ≡ anchor_next instr.now }
+{
+    match *instr {
+        VInstr::Anchor { next, .. } => Some(next),
+        _ => None,
+    }
+}
+
+/// The next label of the Anchor at a label, where there is one.
+#[tactic(auto, unfolding(crate::specs::ImmediateAssume::anchor_at, crate::specs::ImmediateAssume::next_in))]
+pub(crate) fn anchor_at(code: &Code, label: Label) -> Option<Label>
+    ensures { result ≡ anchor_at code.now label }
+{
+    match code.places.items().get(label.0 as usize) {
+        None => None,
+        Some(place) => anchor_next(&place.instr),
+    }
+}
+
+/// How many guards the Assume at a label has, where there is one.
+#[tactic(auto, unfolding(crate::specs::ImmediateAssume::guards_at, crate::specs::ImmediateAssume::count_in, crate::specs::ImmediateAssume::guard_count))]
+pub(crate) fn guards_at(code: &Code, label: Label) -> Option<usize>
+    ensures { result ≡ guards_at code.now label }
+{
+    match code.places.items().get(label.0 as usize) {
+        None => None,
+        Some(place) => match &place.instr {
+            VInstr::Assume { guards, .. } => Some(guards.items().len()),
+            _ => None,
+        },
+    }
+}
+
+/// The first of the guards whose register is not in a draft with that many.
+fn register_offence(regs: u32, guards: &[Guard]) -> Option<Skipped>
+    ensures { result ≡ register_offence regs guards.now }
+{
+    for guard in guards {
+        if let Some(skipped) = guard_offence(regs, guard) {
+            return Some(skipped);
+        }
+    }
+    None
+}
+
+#[tactic(auto, unfolding(crate::specs::ImmediateAssume::guard_offence, crate::specs::ImmediateAssume::if_missing))]
+fn guard_offence(regs: u32, guard: &Guard) -> Option<Skipped>
+    ensures { result ≡ guard_offence regs guard.now }
+{
+    match *guard {
+        Guard::Is { reg, .. } => {
+            if reg.0 < regs {
+                None
+            } else {
+                Some(Skipped::NoRegister { reg })
+            }
+        }
+        Guard::Never => None,
+    }
+}
+
+/// Which room is missing for that many guards, where the Assume after the Anchor has `own` already, or is a fresh one.
+#[tactic(auto, unfolding(crate::specs::ImmediateAssume::full_offence, crate::specs::ImmediateAssume::or_next))]
+fn full_offence(code: &Code, anchor: Label, count: usize, own: Option<usize>) -> Option<Skipped>
+    requires { length code.now.places ≤ 512 }
+    ensures { result ≡ full_offence code.now anchor count own }
+{
+    match own {
+        Some(own) => guards_offence(own, count),
+        None => {
+            if let Some(skipped) = guards_offence(0, count) {
+                return Some(skipped);
+            }
+            let labels = code.places.items().len() as u32;
+            room_offence(fresh_row(code, anchor), labels + 1)
+        }
+    }
+}
+
+/// Whether an Assume has too many guards, its own and others.
+fn guards_offence(own: usize, count: usize) -> Option<Skipped>
+    ensures { result ≡ guards_offence (own + count) }
+{
+    let all = own.saturating_add(count);
+    if all <= MAX_GUARDS {
+        return None;
+    }
+    Some(Skipped::Full {
+        room: Room::Guards,
+        count: told(all),
+    })
+}
+
+/// A count, as a skip tells it.
+#[tactic(auto, unfolding(crate::specs::ImmediateAssume::told))]
+fn told(count: usize) -> u32
+    ensures { result ≡ told count }
+{
+    if count < u32::MAX as usize {
+        count as u32
+    } else {
+        u32::MAX
+    }
+}

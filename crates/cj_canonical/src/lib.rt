@@ -1,0 +1,16 @@
+//! Canonical texts: what is printed is read again as the same.
+//!
+//! Of an input it is asked that its script fits its program, as each script does that is read: the functions,
+//! parameters and `cond`s that it names exist, calls have as many arguments as there are parameters, and levels,
+//! cells, limits, the number of calls and the sum of the limits are within their bounds.
+#![tactic(auto)]
+
+mod again;
+pub mod laws;
+#[cfg(test)]
+mod tests;
+mod texts;
+mod written;
+
+pub use again::{read_back, read_program_back};
+pub use texts::canonical_text;

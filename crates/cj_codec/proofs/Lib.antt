@@ -1,0 +1,11 @@
+pub mod Capped
+pub mod Growing
+pub mod Formats
+pub mod OperandFormats
+pub mod PointFormats
+pub mod Differing
+pub mod InstrFormats
+pub mod PlaceFormats
+pub mod CodeFormats
+pub mod Apart
+pub mod Named

@@ -1,0 +1,180 @@
+//! The words of places: facts, backs and the whole.
+
+ghost use Rattle.std.specs.Prelude.{◌≡◌};
+ghost use Rattle.cj_codec.specs.Spelling.{fact_words, facts_words, back_words, place_words};
+ghost use Rattle.cj_codec.specs.Values.{HasFactValue, HasFactsValues, HasBackValues, HasPlaceValues};
+ghost use Rattle.cj_codec.specs.Reading.{fact_at, rise_from, known_at, facts_at, back_at, place_at};
+ghost use Rattle.cj_codec.specs.Answers.{left, Gives};
+
+use crate::counts::added;
+use crate::instructions::read_instr;
+use crate::items::{Item, read_counted};
+use crate::points::read_point;
+use crate::reader::{Limits, ReadError, WordReader};
+use crate::spelled::{Spelled, Words};
+use cj_draft::{Back, Fact, FactList, Facts, Place};
+use cj_ir::NoMemory;
+use std::alloc::Global;
+
+impl Spelled for Fact {
+    ghost words_of = { fact_words };
+
+    ghost has_values = { HasFactValue };
+
+    fn count(&self, so_far: u64) -> u64 {
+        added(so_far, 2)
+    }
+
+    fn write(&self, out: &mut Words) -> Result<(), NoMemory> {
+        self.reg.write(out)?;
+        out.push(self.value.cast_unsigned())
+    }
+}
+
+impl Spelled for Facts {
+    ghost words_of = { facts_words };
+
+    ghost has_values = { HasFactsValues };
+
+    #[tactic(auto, using(crate::proofs::Capped::capped_more))]
+    fn count(&self, so_far: u64) -> u64 {
+        let so_far = added(so_far, 1);
+        match self {
+            Facts::Unreached => so_far,
+            Facts::Known(facts) => facts.count(so_far),
+        }
+    }
+
+    fn write(&self, out: &mut Words) -> Result<(), NoMemory> {
+        match self {
+            Facts::Unreached => out.push(0),
+            Facts::Known(facts) => {
+                out.push(1)?;
+                facts.write(out)
+            }
+        }
+    }
+}
+
+#[tactic(auto, using(crate::proofs::Capped::capped_more))]
+impl Spelled for Back {
+    ghost words_of = { back_words };
+
+    ghost has_values = { HasBackValues };
+
+    fn count(&self, so_far: u64) -> u64 {
+        self.point.count(added(so_far, 1))
+    }
+
+    fn write(&self, out: &mut Words) -> Result<(), NoMemory> {
+        out.push(self.turns as u64)?;
+        self.point.write(out)
+    }
+}
+
+#[tactic(auto, using(crate::proofs::Capped::capped_more))]
+impl Spelled for Place {
+    ghost words_of = { place_words };
+
+    ghost has_values = { HasPlaceValues };
+
+    fn count(&self, so_far: u64) -> u64 {
+        let so_far = self.instr.count(so_far);
+        let so_far = self.point.count(so_far);
+        let so_far = self.facts.count(so_far);
+        self.backs.count(so_far)
+    }
+
+    fn write(&self, out: &mut Words) -> Result<(), NoMemory> {
+        self.instr.write(out)?;
+        self.point.write(out)?;
+        self.facts.write(out)?;
+        self.backs.write(out)
+    }
+}
+
+impl Item for Fact {
+    ghost reading = { fact_at };
+
+    #[tactic(auto, unfolding(crate::specs::Reading::fact_at))]
+    fn read(_alloc: Global, words: &mut WordReader<'_>, limits: Limits) -> Result<Fact, ReadError> {
+        let reg = words.reg(limits)?;
+        let value = words.value()?;
+        Ok(Fact { reg, value })
+    }
+}
+
+// Whether the registers are strictly increasing.
+fn are_increasing(facts: &[Fact]) -> bool
+    ensures { result ≡ rise_from 0 facts.now }
+{
+    let mut least: u64 = 0;
+    'each: for fact in facts {
+        if (fact.reg.0 as u64) < least {
+            return false;
+        }
+        least = fact.reg.0 as u64 + 1;
+    }
+    true
+}
+
+// The facts of a label that is reached.
+#[tactic(auto, unfolding(crate::specs::Reading::known_at))]
+fn read_known(
+    alloc: Global,
+    words: &mut WordReader<'_>,
+    limits: Limits,
+) -> Result<FactList, ReadError>
+    ensures { Gives result (left words.new) (known_at limits (left words.old)) }
+{
+    let facts: FactList = read_counted(alloc, words, limits)?;
+    if are_increasing(facts.items()) {
+        Ok(facts)
+    } else {
+        Err(ReadError::NoSpelling)
+    }
+}
+
+// The facts of a label.
+#[tactic(auto, unfolding(crate::specs::Reading::facts_at))]
+fn read_facts(alloc: Global, words: &mut WordReader<'_>, limits: Limits) -> Result<Facts, ReadError>
+    ensures { Gives result (left words.new) (facts_at limits (left words.old)) }
+{
+    match words.next()? {
+        0 => Ok(Facts::Unreached),
+        1 => {
+            let facts = read_known(alloc, words, limits)?;
+            Ok(Facts::Known(facts))
+        }
+        _ => Err(ReadError::NoSpelling),
+    }
+}
+
+impl Item for Back {
+    ghost reading = { back_at };
+
+    #[tactic(auto, unfolding(crate::specs::Reading::back_at))]
+    fn read(alloc: Global, words: &mut WordReader<'_>, limits: Limits) -> Result<Back, ReadError> {
+        let turns = words.at_most(4)?;
+        let point = read_point(alloc, words, limits)?;
+        Ok(Back { turns, point })
+    }
+}
+
+impl Item for Place {
+    ghost reading = { place_at };
+
+    #[tactic(auto, unfolding(crate::specs::Reading::place_at))]
+    fn read(alloc: Global, words: &mut WordReader<'_>, limits: Limits) -> Result<Place, ReadError> {
+        let instr = read_instr(alloc, words, limits)?;
+        let point = read_point(alloc, words, limits)?;
+        let facts = read_facts(alloc, words, limits)?;
+        let backs = read_counted(alloc, words, limits)?;
+        Ok(Place {
+            instr,
+            point,
+            facts,
+            backs,
+        })
+    }
+}

@@ -1,0 +1,8 @@
+-- A program without versions has sound codes.
+use Rattle.std.proofs.Common.{◌≡◌, ℕ}
+use Rattle.cj_ir.specs.declared.language.Program.{Program}
+use Rattle.cj_engine.specs.CodeMaps.{SoundCodes, no_codes}
+
+pub no_codes_sound : (P : Program) → SoundCodes P no_codes
+unfolding no_codes
+no_codes_sound P f offset code found = let never : ⊥ = cc in absurd never

@@ -1,0 +1,10 @@
+pub mod Versions
+pub mod VersionRuns
+pub mod Marks
+pub mod CodeMaps
+pub mod Stands
+pub mod Watching
+pub mod Machines
+pub mod Stepping
+pub mod Engines
+pub mod OneVersion

@@ -1,0 +1,55 @@
+//! A list of values that is used again and again.
+
+ghost use Rattle.std.specs.Prelude.{◌≡◌, ◌≤◌, [], ◌++◌, length, map, vec_capacity, All, OnOk, IsOk};
+ghost use Rattle.cj_ir.specs.Values.{operand_value, IsOperandWithin};
+
+use cj_draft::{Pair, Pairs};
+use cj_ir::{NoMemory, Operand};
+use std::alloc::Global;
+
+/// Values that are read before registers are written: a call's arguments, and what a Move assigns. It has room for as
+/// many values as a Move can assign.
+#[derive(Debug, Drop)]
+pub struct Scratch {
+    values: Vec<i64>,
+    ghost room: { 128 ≤ vec_capacity values },
+}
+
+impl Scratch {
+    /// An empty list with its room.
+    pub fn new(alloc: Global) -> Result<Scratch, NoMemory> {
+        let values = Vec::with_capacity(alloc, 128)?;
+        Ok(Scratch { values })
+    }
+
+    pub fn items(&self) -> &[i64]
+        ensures { result.now ≡ self.now.values.items }
+    {
+        self.values.as_slice()
+    }
+
+    /// Reads operands, over registers that have all of theirs.
+    pub fn read(&mut self, operands: &[Operand], regs: &[i64]) -> Result<(), NoMemory>
+        requires { All (IsOperandWithin (length regs.now)) operands.now }
+        ensures { OnOk result (self.new.values.items ≡ map (operand_value regs.now) operands.now) }
+    {
+        self.values.clear();
+        for operand in operands {
+            self.values.push(operand.value(regs))?;
+        }
+        Ok(())
+    }
+
+    /// Reads what a Move assigns. It takes no memory.
+    pub fn read_pairs(&mut self, pairs: &Pairs, regs: &[i64])
+        requires few { length pairs.now ≤ 128 }
+        requires within { All (λ pair. IsOperandWithin (length regs.now) pair.value) pairs.now }
+        ensures { self.new.values.items ≡ map (λ pair. operand_value regs.now pair.value) pairs.now }
+    {
+        self.values.clear();
+        for pair in pairs.items() {
+            let pushed = self.values.push(pair.value.value(regs));
+            prove!(pushed.is_ok());
+        }
+    }
+}

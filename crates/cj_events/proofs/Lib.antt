@@ -1,0 +1,16 @@
+mod GrammarTurns
+mod ReplayShapes
+mod Names
+mod LabelTurns
+mod ManyTurns
+mod GuardTurns
+mod PassTurns
+mod BegunTokens
+mod Tallied
+mod EventTurns
+mod ManyReads
+mod PassReads
+mod EventReads
+mod FineEvents
+mod Readings
+mod ReplayReads

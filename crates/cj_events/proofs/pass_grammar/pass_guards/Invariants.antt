@@ -1,0 +1,11 @@
+use Rattle.std.proofs.Common.{◌≡◌, length}
+use Rattle.cj_tokens.specs.Left.{left}
+use Rattle.cj_grammar.specs.Grammar.{eat}
+use Rattle.cj_events.specs.Rules.{more_guards, guards}
+use Rattle.cj_events.proofs.pass_grammar.pass_guards.Given as goal
+
+abbrev pub invariant-more : goal.invariant-more
+invariant-more l = eat guards (left l.fn.tokens) ≡ eat more_guards (left l.tokens)
+
+abbrev pub decreases-more : goal.decreases-more
+decreases-more l = length (left l.tokens)

@@ -1,0 +1,11 @@
+use Rattle.std.proofs.Common.{◌≡◌, length}
+use Rattle.cj_tokens.specs.Left.{left}
+use Rattle.cj_grammar.specs.Grammar.{eat}
+use Rattle.cj_events.specs.Rules.{passes}
+use Rattle.cj_events.proofs.pass_grammar.pass_passes.Given as goal
+
+abbrev pub invariant-more : goal.invariant-more
+invariant-more l = eat passes (left l.fn.tokens) ≡ eat passes (left l.tokens)
+
+abbrev pub decreases-more : goal.decreases-more
+decreases-more l = length (left l.tokens)

@@ -1,0 +1,7 @@
+pub mod Rules
+pub mod Tallies
+pub mod Meaning
+pub mod Fitting
+pub mod Reading
+pub mod Readings
+pub mod Replays

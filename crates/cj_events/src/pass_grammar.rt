@@ -1,0 +1,104 @@
+//! Passing over the passes of a `compile`.
+
+ghost use Rattle.std.specs.Prelude.{◌≡◌};
+ghost use Rattle.cj_tokens.specs.Left.{left};
+ghost use Rattle.cj_tokens.specs.Passing.{ended};
+ghost use Rattle.cj_tokens.specs.declared.terminal.Terminal.TheVariants.{Comma};
+ghost use Rattle.cj_grammar.specs.Grammar.{eat, starts};
+ghost use Rattle.cj_grammar.specs.Rules.{one, ◌▸◌};
+ghost use Rattle.cj_events.specs.Rules.{labels, equation, guard, guards, anchors_pass, assume_pass, any_pass, passes};
+
+use cj_tokens::{Terminal, Tokens, Unfit};
+
+#[tactic(auto, using(crate::proofs::GrammarTurns::more_labels_go, crate::proofs::GrammarTurns::more_labels_stop, crate::proofs::GrammarTurns::label_shorter), unfolding(crate::specs::Rules::labels))]
+fn pass_labels(tokens: &mut Tokens<'_>) -> Result<(), Unfit>
+    ensures { eat labels (left tokens.old) ≡ ended result (left tokens.new) }
+{
+    tokens.expect(Terminal::Number)?;
+    'more: while tokens.is_at(Terminal::Number) {
+        tokens.expect(Terminal::Number)?;
+    }
+    Ok(())
+}
+
+#[tactic(auto, unfolding(crate::specs::Rules::equation))]
+fn pass_equation(tokens: &mut Tokens<'_>) -> Result<(), Unfit>
+    ensures { eat equation (left tokens.old) ≡ ended result (left tokens.new) }
+{
+    tokens.expect(Terminal::Number)?;
+    tokens.expect(Terminal::Equals)?;
+    tokens.expect(Terminal::Number)
+}
+
+#[tactic(auto, using(crate::proofs::GrammarTurns::begins), unfolding(crate::specs::Rules::guard, crate::specs::Rules::equation))]
+fn pass_guard(tokens: &mut Tokens<'_>) -> Result<(), Unfit>
+    ensures { eat guard (left tokens.old) ≡ ended result (left tokens.new) }
+{
+    match tokens.peek() {
+        Terminal::Number => pass_equation(tokens),
+        _ => tokens.expect(Terminal::Never),
+    }
+}
+
+fn pass_next_guard(tokens: &mut Tokens<'_>) -> Result<(), Unfit>
+    ensures { eat (one Comma ▸ guard) (left tokens.old) ≡ ended result (left tokens.new) }
+{
+    tokens.expect(Terminal::Comma)?;
+    pass_guard(tokens)
+}
+
+#[tactic(auto, using(crate::proofs::GrammarTurns::more_guards_go, crate::proofs::GrammarTurns::more_guards_stop, crate::proofs::GrammarTurns::next_guard_shorter), unfolding(crate::specs::Rules::guards))]
+fn pass_guards(tokens: &mut Tokens<'_>) -> Result<(), Unfit>
+    ensures { eat guards (left tokens.old) ≡ ended result (left tokens.new) }
+{
+    tokens.expect(Terminal::When)?;
+    pass_guard(tokens)?;
+    'more: while tokens.is_at(Terminal::Comma) {
+        pass_next_guard(tokens)?;
+    }
+    Ok(())
+}
+
+#[tactic(auto, unfolding(crate::specs::Rules::anchors_pass))]
+fn pass_anchors(tokens: &mut Tokens<'_>) -> Result<(), Unfit>
+    ensures { eat anchors_pass (left tokens.old) ≡ ended result (left tokens.new) }
+{
+    tokens.expect(Terminal::Anchors)?;
+    pass_labels(tokens)
+}
+
+#[tactic(auto, unfolding(crate::specs::Rules::assume_pass))]
+fn pass_assume(tokens: &mut Tokens<'_>) -> Result<(), Unfit>
+    ensures { eat assume_pass (left tokens.old) ≡ ended result (left tokens.new) }
+{
+    tokens.expect(Terminal::Assume)?;
+    tokens.expect(Terminal::Number)?;
+    pass_guards(tokens)
+}
+
+#[tactic(auto, using(crate::proofs::GrammarTurns::begins), unfolding(crate::specs::Rules::any_pass, crate::specs::Rules::anchors_pass, crate::specs::Rules::assume_pass))]
+fn begins_pass(tokens: &Tokens<'_>) -> bool
+    ensures { result ≡ starts any_pass (left tokens.now) }
+{
+    matches!(tokens.peek(), Terminal::Anchors | Terminal::Assume)
+}
+
+#[tactic(auto, using(crate::proofs::GrammarTurns::begins), unfolding(crate::specs::Rules::any_pass, crate::specs::Rules::anchors_pass, crate::specs::Rules::assume_pass))]
+fn pass_any(tokens: &mut Tokens<'_>) -> Result<(), Unfit>
+    ensures { eat any_pass (left tokens.old) ≡ ended result (left tokens.new) }
+{
+    match tokens.peek() {
+        Terminal::Anchors => pass_anchors(tokens),
+        _ => pass_assume(tokens),
+    }
+}
+
+#[tactic(auto, using(crate::proofs::GrammarTurns::passes_go, crate::proofs::GrammarTurns::passes_stop, crate::proofs::GrammarTurns::pass_shorter))]
+pub fn pass_passes(tokens: &mut Tokens<'_>) -> Result<(), Unfit>
+    ensures { eat passes (left tokens.old) ≡ ended result (left tokens.new) }
+{
+    'more: while begins_pass(tokens) {
+        pass_any(tokens)?;
+    }
+    Ok(())
+}

@@ -1,0 +1,74 @@
+//! The passes of a `compile`.
+
+ghost use Rattle.std.specs.Prelude.{◌≡◌, []};
+ghost use Rattle.cj_tokens.specs.Left.{left};
+ghost use Rattle.cj_grammar.specs.Reading.{Gives};
+ghost use Rattle.cj_events.specs.Reading.{is_pass, anchors_at, assume_at, pass_at, passes_at};
+
+use crate::guards::read_guards;
+use crate::judge::{draft_label, refused};
+use crate::labels::read_labels;
+use cj_draft::{Pass, Passes};
+use cj_tokens::{Kind, ParseError, Terminal, Tokens};
+use std::alloc::Global;
+
+/// The labels behind `anchors`.
+#[tactic(auto, unfolding(crate::specs::Reading::anchors_at))]
+fn read_anchors(alloc: Global, tokens: &mut Tokens<'_>) -> Result<Pass, ParseError>
+    ensures { Gives result (left tokens.new) (anchors_at (left tokens.old)) }
+{
+    let places = read_labels(alloc, tokens)?;
+    Ok(Pass::Anchors { places })
+}
+
+/// The anchor and the guards behind `assume`.
+#[tactic(auto, unfolding(crate::specs::Reading::assume_at))]
+fn read_assume(alloc: Global, tokens: &mut Tokens<'_>) -> Result<Pass, ParseError>
+    ensures { Gives result (left tokens.new) (assume_at (left tokens.old)) }
+{
+    let token = tokens.take();
+    let anchor = draft_label(token)?;
+    let guards = read_guards(alloc, tokens)?;
+    Ok(Pass::Assume { anchor, guards })
+}
+
+/// A pass behind so many others.
+#[tactic(auto, unfolding(crate::specs::Reading::pass_at))]
+fn read_pass(alloc: Global, tokens: &mut Tokens<'_>, earlier: usize) -> Result<Pass, ParseError>
+    ensures { Gives result (left tokens.new) (pass_at earlier (left tokens.old)) }
+{
+    let word = tokens.take();
+    if earlier >= 256 {
+        return Err(refused(word, Kind::TooMany));
+    }
+    match word.terminal {
+        Terminal::Anchors => read_anchors(alloc, tokens),
+        _ => read_assume(alloc, tokens),
+    }
+}
+
+/// A pass stands next.
+fn is_pass(tokens: &Tokens<'_>) -> bool
+    ensures { result ≡ is_pass (left tokens.now) }
+{
+    tokens.is_at(Terminal::Anchors) || tokens.is_at(Terminal::Assume)
+}
+
+/// The passes that stand next.
+#[tactic(auto, using(crate::proofs::PassTurns::passes_turn, crate::proofs::PassTurns::passes_fail, crate::proofs::PassTurns::passes_stop, crate::proofs::PassTurns::pass_shorter))]
+pub fn read_passes(alloc: Global, tokens: &mut Tokens<'_>) -> Result<Passes, ParseError>
+    ensures { Gives result (left tokens.new) (passes_at [] (left tokens.old)) }
+{
+    let mut passes = Passes::new(alloc);
+    'passes: while is_pass(tokens) {
+        let pass = match read_pass(alloc, tokens, passes.items().len()) {
+            Ok(pass) => pass,
+            Err(error) => return Err(error),
+        };
+        match passes.push(pass) {
+            Ok(()) => {}
+            Err(_) => return Err(ParseError::NoMemory),
+        }
+    }
+    Ok(passes)
+}

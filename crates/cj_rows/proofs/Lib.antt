@@ -1,0 +1,5 @@
+pub mod ListReads
+pub mod GuardRows
+pub mod RowLemmas
+pub mod InsertedRows
+pub mod Room
