@@ -10,9 +10,8 @@ use Rattle.cj_base.specs.Machine.{Calls, entry_regs, entry_frame, resumed}
 use Rattle.cj_draft.specs.declared.code.Code.{Code}
 use Rattle.cj_calls.specs.declared.report.Look.{Look}
 use Rattle.cj_calls.specs.declared.report.Note.{Note}
-use Rattle.std.specs.Prelude.{replicate, pos}
 use Rattle.cj_ir.specs.declared.script.ScriptCall.{ScriptCall}
-use Rattle.cj_base.specs.Run.{begun}
+use Rattle.cj_engine.specs.Engines.{begun_with}
 use Rattle.cj_engine.specs.VersionRuns.{version_start, begins_in, first_state}
 use Rattle.cj_activations.specs.declared.windows.Position.{Position}
 use Rattle.cj_activations.specs.declared.windows.Position.TheVariants.{Base, Version}
@@ -152,11 +151,11 @@ returns_step P turn args before now value codes look final is made =
 -- ---- the start
 
 pub start_made : (P : Program) (codes : Codes) (call : ScriptCall) (memory printed : List ℤ) (looks : List Look) (notes : List Note) (look : Look) (position : Position) (count : ℕ) (stack : Stacked)
-    → memory ≡ replicate call.cells (pos 0) → printed ≡ [] → notes ≡ [] → looks ≡ look ∷ []
+    → printed ≡ [] → notes ≡ [] → looks ≡ look ∷ []
     → versions.entered P codes (Some look) call.function call.args ≡ Some (active_at position (entry_regs count call.args))
     → stack ≡ entered position count call.args []
-    → version_start P codes (slice_get looks 0) (begun call)
+    → version_start P codes (slice_get looks 0) (begun_with call memory)
     ≡ Continues (record { stack = stack; memory = memory; printed = printed; turns = 0; base_turns = 0; fails = 0; entries = length looks; notes = notes })
-unfolding version_start begins_in first_state begun entered
-start_made P codes call memory printed looks notes look position count stack m p n l e s =
-    rw (l, e, m, p, n, s) refl
+unfolding version_start begins_in first_state begun_with entered
+start_made P codes call memory printed looks notes look position count stack p n l e s =
+    rw (l, e, p, n, s) refl

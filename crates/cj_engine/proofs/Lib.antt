@@ -8,6 +8,7 @@ pub mod Growing
 pub mod Runs
 pub mod RunMarks
 pub mod Reporting
+pub mod Going
 pub mod Existing
 pub mod PlainTrails
 pub mod Worked

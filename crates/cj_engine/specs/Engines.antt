@@ -1,9 +1,10 @@
 -- What holds before a turn of the engine, and what a turn leaves.
-use Rattle.std.specs.Prelude.{◌≡◌, ◌<◌, ◌≤◌, ℕ, length, Some, Bool, true, false}
+use Rattle.std.specs.Prelude.{◌≡◌, ◌<◌, ◌≤◌, ℕ, List, length, Some, Bool, true, false, ℤ}
 use Rattle.cj_ir.specs.WellFormed.{Takes, IsInstrFine}
 use Rattle.cj_ir.specs.Program.{instr_at, label_count}
 use Rattle.cj_ir.specs.declared.language.Program.{Program}
 use Rattle.cj_ir.specs.declared.language.Instr.{Instr}
+use Rattle.cj_ir.specs.declared.script.ScriptCall.{ScriptCall}
 use Rattle.cj_base.specs.declared.machine.Frame.{Frame}
 use Rattle.cj_base.specs.declared.machine.Turned.{Turned}
 use Rattle.cj_base.specs.declared.machine.Turned.TheVariants.{Running, Ended}
@@ -12,8 +13,10 @@ use Rattle.cj_draft.specs.declared.code.Place.{Place}
 use Rattle.cj_draft.specs.declared.code.Code.{Code}
 use Rattle.cj_draft.specs.Arrives.{place_at}
 use Rattle.cj_draft.specs.WellNamed.{IsVInstrFine}
+use Rattle.cj_calls.specs.declared.report.Look.{Look}
 use Rattle.cj_activations.specs.Activations.{VersionFrame, Active, InBase, InVersion}
-use Rattle.cj_engine.specs.Versions.{State, Codes}
+use Rattle.cj_engine.specs.Versions.{State, Codes, Continues}
+use Rattle.cj_engine.specs.VersionRuns.{version_run, report_of, version_report}
 use Rattle.cj_engine.specs.Stands.{Stands}
 use Rattle.cj_engine.specs.Machines.{IsEarly}
 use Rattle.cj_engine.specs.Stepping.{CanTake, CanGoBack}
@@ -25,6 +28,25 @@ pub record IsUnderWay (P : Program) (codes : Codes) (s : State) : Type 0 where
   pub stands : Stands P codes call s
   pub before : s.turns < call.limit
   pub limit : call.limit ≤ 1000000
+
+-- a script's call that begins with this memory
+unfoldable pub begun_with : ScriptCall → List ℤ → Begun
+begun_with call memory =
+    record { function = call.function; args = call.args; memory = memory; limit = call.limit }
+
+-- The run of the call over these looks goes on in this state, which used them all, within the call's limit.
+pub record IsRun (P : Program) (codes : Codes) (looks : List Look) (call : Begun) (s : State) : Type 0 where
+  pub takes : Takes P.functions call.function (length call.args)
+  pub run : version_run P codes looks call s.turns ≡ Continues s
+  pub used : s.entries ≡ length looks
+  pub stands : Stands P codes call s
+  pub within : s.turns ≤ call.limit
+  pub limit : call.limit ≤ 1000000
+
+-- What a turn of the call's run leaves by its answer: the run goes on in this state, or its report is read off it.
+abbrev pub RunGoes : Program → Codes → List Look → Begun → Turned → State → Type 0
+RunGoes P codes looks call Running s = IsRun P codes looks call s
+RunGoes P codes looks call (Ended end) s = version_report P codes looks call ≡ Some (report_of looks end s)
 
 -- a base frame whose instruction exists, and all that it names
 pub record BaseReady (P : Program) (fr : Frame) : Type 0 where

@@ -1,6 +1,6 @@
 -- A map of codes with one version at most, which its function has at each offset.
 use Rattle.std.proofs.Common.{◌≡◌, ap, refl, subst, arith}
-use Rattle.std.specs.Prelude.{ℕ, Bool, true, false, [], Option, Some, None, IsSome, ⊤, ◌==◌, if◌then◌else◌}
+use Rattle.std.specs.Prelude.{ℕ, List, Bool, true, false, [], Option, Some, None, ⊤, ◌==◌, if◌then◌else◌}
 use Rattle.std.proofs.lemmas.Option.{same_Some}
 use Rattle.std.proofs.lemmas.Bool.Decides.{nat_tests}
 use Rattle.cj_ir.specs.declared.language.FunId.{FunId}
@@ -8,7 +8,10 @@ use Rattle.cj_ir.specs.declared.language.Program.{Program}
 use Rattle.cj_draft.specs.declared.code.Code.{Code}
 use Rattle.cj_draft.specs.Sound.{Sound}
 use Rattle.cj_draft.specs.Bodies.{Body}
-use Rattle.cj_engine.specs.Versions.{Codes}
+use Rattle.cj_base.specs.Run.{Begun}
+use Rattle.cj_calls.specs.declared.report.Look.{Look}
+use Rattle.cj_engine.specs.Versions.{State, Codes}
+use Rattle.cj_engine.specs.Engines.{IsRun}
 use Rattle.cj_engine.specs.CodeMaps.{SoundCodes}
 
 -- the code, where the function is its own
@@ -40,3 +43,9 @@ pub one_sound : (P : Program) (version : Option Body) → OneFits P version → 
 unfolding one_code code_for
 one_sound P None fits f offset code found = absurd cc
 one_sound P (Some body) fits f offset code found = own_sound P f body.code code (body.code.function.0 == f.0) refl fits.sound found
+
+-- the run of some call with this limit goes on
+pub record Walks (P : Program) (version : Option Body) (looks : List Look) (limit : ℕ) (s : State) : Type 0 where
+  pub call : Begun
+  pub same : call.limit ≡ limit
+  pub run : IsRun P (one_code version) looks call s

@@ -1,6 +1,7 @@
 -- What an instruction leaves to do, in the words of the versioned machine.
-use Rattle.std.specs.Prelude.{◌≡◌, ◌<◌, ◌≤◌, ℕ, List, [], ◌∷◌, Option, Some, ℤ, length, false, ⊤}
+use Rattle.std.specs.Prelude.{◌≡◌, ◌<◌, ◌≤◌, ℕ, List, [], ◌∷◌, Option, Some, None, ℤ, length, false, ⊤}
 use Rattle.cj_ir.specs.WellFormed.{Takes}
+use Rattle.cj_ir.specs.Program.{instr_at}
 use Rattle.cj_ir.specs.declared.language.FunId.{FunId}
 use Rattle.cj_ir.specs.declared.language.Label.{Label}
 use Rattle.cj_ir.specs.declared.language.Reg.{Reg}
@@ -19,10 +20,10 @@ use Rattle.cj_draft.specs.declared.code.Code.{Code}
 use Rattle.cj_draft.specs.Arrives.{place_at}
 use Rattle.cj_draft.specs.Effects.{VersionEffect, Plain, Guarded, version_effect}
 use Rattle.cj_calls.specs.declared.report.Look.{Look}
-use Rattle.cj_activations.specs.Activations.{VersionFrame, InBase, InVersion, Paused, BaseWaits, VersionWaits}
+use Rattle.cj_activations.specs.Activations.{VersionFrame, Active, InBase, InVersion, Paused, BaseWaits, VersionWaits}
 use Rattle.cj_engine.specs.declared.steps.Step.{Step}
 use Rattle.cj_engine.specs.declared.steps.Step.TheVariants as step
-use Rattle.cj_engine.specs.Versions.{State, Codes, Progress, Continues, Finishes, returns_to, turn_by, version_turn_by}
+use Rattle.cj_engine.specs.Versions.{State, Codes, Progress, Continues, Finishes, place_in, returns_to, turn_by, version_turn_by}
 use Rattle.cj_engine.specs.Marks.{Mark, Entered, Branched, FailedIn, base_marks, version_marks}
 use Rattle.cj_engine.specs.Machines.{IsEarly}
 use Rattle.cj_engine.specs.Watching.{IsCond, IsBranch}
@@ -124,6 +125,27 @@ EffectTakesMemory (Faults fault) = ⊥
 abbrev pub VersionTakesMemory : VersionEffect → Type 0
 VersionTakesMemory (Plain e) = EffectTakesMemory e
 VersionTakesMemory (Guarded b back target next) = b ≡ false
+
+abbrev pub BaseTakesMemory : Frame → List ℤ → Option Instr → Type 0
+BaseTakesMemory fr m None = ⊥
+BaseTakesMemory fr m (Some instr) = EffectTakesMemory (effect instr fr m)
+
+abbrev pub PlaceTakesMemory : VersionFrame → List ℤ → Option Place → Type 0
+PlaceTakesMemory v m None = ⊥
+PlaceTakesMemory v m (Some place) = VersionTakesMemory (version_effect place.instr v.regs m)
+
+abbrev pub TopTakesMemory : Program → Codes → List ℤ → Active → Type 0
+TopTakesMemory P codes m (InBase fr) = BaseTakesMemory fr m (instr_at P fr.function fr.label)
+TopTakesMemory P codes m (InVersion v) = PlaceTakesMemory v m (place_in codes v)
+
+-- the turn that a state makes takes memory
+abbrev pub TurnTakesMemory : Program → Codes → State → Type 0
+TurnTakesMemory P codes s = TopTakesMemory P codes s.memory s.stack.top
+
+-- a function is still to be entered
+abbrev pub IsEntry : Step → Type 0
+IsEntry (step.Enters dest g next) = ⊤
+IsEntry step = ⊥
 
 -- the base frames of an Assume are no more turns ago than there were base turns
 abbrev pub CanGoBack : ℕ → VInstr → Type 0

@@ -1,6 +1,6 @@
 //! The engine: a run, turn by turn.
 
-ghost use Rattle.std.specs.Prelude.{◌≡◌, ◌≢◌, ◌<◌, ◌≤◌, [], ◌∷◌, ◌++◌, length, replicate, pos, Some, IsSome, IfOk, OnOk, OnErr, ℤ, List, ℕ, Option, slice_get, true, false};
+ghost use Rattle.std.specs.Prelude.{◌≡◌, ◌≢◌, ◌<◌, ◌≤◌, ◌+◌, [], ◌∷◌, ◌++◌, length, replicate, pos, Some, IsSome, IfOk, IfErr, OnOk, OnErr, ℤ, List, ℕ, Option, slice_get, true, false};
 ghost use Rattle.cj_ir.specs.WellFormed.{Takes};
 ghost use Rattle.cj_ir.specs.declared.language.Program.{Program};
 ghost use Rattle.cj_base.specs.Machine.{entry_regs, Calls};
@@ -17,8 +17,8 @@ ghost use Rattle.cj_engine.specs.CodeMaps.{Grows};
 ghost use Rattle.cj_engine.specs.Stands.{Stands, Holds};
 ghost use Rattle.cj_engine.specs.Watching.{Gains};
 ghost use Rattle.cj_engine.specs.Machines.{state_of, IsEarly, progress_of};
-ghost use Rattle.cj_engine.specs.Stepping.{Turn, IsStep, IsReady, IsCaller, CanTake, marks_told};
-ghost use Rattle.cj_engine.specs.Engines.{IsUnderWay, CanTurn, goes_on};
+ghost use Rattle.cj_engine.specs.Stepping.{Turn, IsStep, IsReady, IsCaller, CanTake, TurnTakesMemory, IsEntry, marks_told};
+ghost use Rattle.cj_engine.specs.Engines.{begun_with, IsUnderWay, IsRun, RunGoes, CanTurn, goes_on};
 
 use crate::machine::Machine;
 use crate::scratch::Scratch;
@@ -41,8 +41,7 @@ pub struct Engine<'p> {
 }
 
 impl<'p> Engine<'p> {
-    /// The run of a call after its function is entered, with as many cells of memory as the call asks for, all 0. It
-    /// makes the room that a Move needs.
+    /// The run of a call after its function is entered, with as many cells of memory as the call asks for, all 0.
     pub fn start<W: Watch>(
         alloc: Global,
         checked: &'p Checked,
@@ -55,8 +54,10 @@ impl<'p> Engine<'p> {
         requires program { W.program watch.old ≡ checked.now }
         ensures made { IfOk result (λ engine.
             version_start checked.now (W.codes watch.new) (slice_get engine.machine.looks 0) (begun call.now) ≡ Continues (state_of engine.machine)) }
+        ensures run { IfOk result (λ engine. IsRun checked.now (W.codes watch.new) engine.machine.looks (begun call.now) (state_of engine.machine)) }
         ensures program { IfOk result (λ engine. engine.checked.now ≡ checked.now) }
         ensures running { IfOk result (λ engine. engine.running ≡ true) }
+        ensures no_turns { IfOk result (λ engine. engine.machine.turns ≡ 0) }
         ensures gains { IfOk result (λ engine. Gains [] engine.machine.looks (W.trail watch.old) (W.trail watch.new)) }
         ensures went { IfOk result (λ engine. W.went watch.old watch.new (start_marks (begun call.now))) }
         ensures grows { Grows (W.codes watch.old) (W.codes watch.new) }
@@ -64,9 +65,40 @@ impl<'p> Engine<'p> {
         ensures stays { W.stays watch.old watch.new }
         ensures ready { W.ready watch.new }
     {
-        let scratch = Scratch::new(alloc)?;
         let mut memory = Values::new(alloc);
         push_zeros(&mut memory, call.cells)?;
+        let engine = Engine::start_with(alloc, checked, call, memory, watch)?;
+        Ok(engine)
+    }
+
+    /// The run of a call after its function is entered, with this memory, however many cells the call asks for. It makes
+    /// the room that a Move needs.
+    pub fn start_with<W: Watch>(
+        alloc: Global,
+        checked: &'p Checked,
+        call: &ScriptCall,
+        memory: Values,
+        watch: &mut W,
+    ) -> Result<Engine<'p>, NoMemory>
+        requires takes { Takes checked.now.functions call.now.function (length call.now.args) }
+        requires limit { (1 ≤ call.now.limit) × (call.now.limit ≤ 1000000) }
+        requires ready { W.ready watch.old }
+        requires program { W.program watch.old ≡ checked.now }
+        ensures made { IfOk result (λ engine.
+            version_start checked.now (W.codes watch.new) (slice_get engine.machine.looks 0) (begun_with call.now memory) ≡ Continues (state_of engine.machine)) }
+        ensures run { IfOk result (λ engine. IsRun checked.now (W.codes watch.new) engine.machine.looks (begun_with call.now memory) (state_of engine.machine)) }
+        ensures program { IfOk result (λ engine. engine.checked.now ≡ checked.now) }
+        ensures running { IfOk result (λ engine. engine.running ≡ true) }
+        ensures no_turns { IfOk result (λ engine. engine.machine.turns ≡ 0) }
+        ensures gains { IfOk result (λ engine. Gains [] engine.machine.looks (W.trail watch.old) (W.trail watch.new)) }
+        ensures went { IfOk result (λ engine. W.went watch.old watch.new (start_marks (begun_with call.now memory))) }
+        ensures grows { Grows (W.codes watch.old) (W.codes watch.new) }
+        ensures same { W.program watch.new ≡ W.program watch.old }
+        ensures stays { W.stays watch.old watch.new }
+        ensures ready { W.ready watch.new }
+    {
+        let _program = checked.program();
+        let scratch = Scratch::new(alloc)?;
         let mut looks = Looks::new(alloc);
         let args = call.args.items();
         let offset = watch.enter(call.function, args)?;
@@ -112,7 +144,13 @@ impl<'p> Engine<'p> {
         ensures holds { IfOk result (λ answer. (call : Begun) →
             Stands self.old.checked.now (W.codes watch.old) call (state_of self.old.machine) →
             Holds self.old.checked.now (W.codes watch.new) call (progress_of answer (state_of self.new.machine))) }
+        ensures goes { IfOk result (λ answer. (call : Begun) →
+            IsRun self.old.checked.now (W.codes watch.old) self.old.machine.looks call (state_of self.old.machine) →
+            self.old.machine.turns < call.limit →
+            RunGoes self.old.checked.now (W.codes watch.new) self.new.machine.looks call answer (state_of self.new.machine)) }
+        ensures one_more { IfOk result (λ answer. self.new.machine.turns ≡ self.old.machine.turns + 1) }
         ensures running { IfOk result (λ answer. self.new.running ≡ goes_on answer) }
+        ensures only_then { IfErr result (λ refused. TurnTakesMemory self.old.checked.now (W.codes watch.old) (state_of self.old.machine)) }
         ensures no_memory { OnErr result (self.new.running ≡ false) }
         ensures checked { self.new.checked ≡ self.old.checked }
         ensures grows { Grows (W.codes watch.old) (W.codes watch.new) }
@@ -141,6 +179,7 @@ impl<'p> Engine<'p> {
         ensures gains { IfOk result (λ answer. Gains self.old.machine.looks self.new.machine.looks (W.trail watch.old) (W.trail watch.new)) }
         ensures went { IfOk result (λ answer. W.went watch.old watch.new
             (turn_marks self.old.checked.now (W.codes watch.new) (state_of self.old.machine))) }
+        ensures only_then { IfErr result (λ refused. TurnTakesMemory self.old.checked.now (W.codes watch.old) (state_of self.old.machine)) }
         ensures checked { self.new.checked ≡ self.old.checked }
         ensures running { self.new.running ≡ self.old.running }
         ensures grows { Grows (W.codes watch.old) (W.codes watch.new) }
@@ -189,6 +228,7 @@ impl<'p> Engine<'p> {
             ≡ progress_of answer (state_of self.new.machine)) }
         ensures gains { IfOk result (λ answer. Gains self.old.machine.looks self.new.machine.looks (W.trail watch.old) (W.trail watch.new)) }
         ensures went { IfOk result (λ answer. W.went watch.old watch.new (marks_told step function label self.old.scratch.values.items)) }
+        ensures only_then { IfErr result (λ refused. IsEntry step) }
         ensures checked { self.new.checked ≡ self.old.checked }
         ensures running { self.new.running ≡ self.old.running }
         ensures grows { Grows (W.codes watch.old) (W.codes watch.new) }

@@ -6,6 +6,7 @@ ghost use Rattle.cj_ir.specs.declared.language.Program.{Program};
 ghost use Rattle.cj_base.specs.declared.machine.Frame.{Frame};
 ghost use Rattle.cj_ir.specs.Values.{operand_value};
 ghost use Rattle.cj_base.specs.Machine.{effect};
+ghost use Rattle.cj_draft.specs.declared.instructions.VInstr.TheVariants.{Assume};
 ghost use Rattle.cj_draft.specs.Effects.{version_effect, guard_holds, guards_hold, moved};
 ghost use Rattle.cj_draft.specs.WellNamed.{IsVInstrFine, ArePairsFine, IsPointFine, IsGuardWithin};
 ghost use Rattle.cj_draft.specs.Points.{frames_of};
@@ -23,7 +24,7 @@ use cj_base::{End, Frame, Turned, Waitings};
 use cj_calls::Note;
 use cj_draft::laws::assignments_are_few;
 use cj_draft::{Pair, Pairs, Point, VInstr};
-use cj_ir::{Edge, FunId, Guard, Instr, Label, NoMemory, Reg};
+use cj_ir::{Edge, FunId, Guard, Guards, Instr, Label, NoMemory, Reg};
 
 /// What is left to do after an instruction.
 #[derive(Clone, Copy, Debug, PartialEq, Eq)]
@@ -185,15 +186,7 @@ impl Machine {
                 back,
                 target,
                 next,
-            } => {
-                if guards_hold(guards.items(), self.activations.top_registers()) {
-                    self.pass(*next);
-                    Step::Goes
-                } else {
-                    self.rebuild(*back, target)?;
-                    Step::Fails
-                }
-            }
+            } => self.assume(guards, *back, target, *next)?,
             VInstr::Anchor { next, .. } => {
                 self.pass(*next);
                 Step::Goes
@@ -214,6 +207,33 @@ impl Machine {
         scratch.read_pairs(pairs, self.activations.top_registers());
         write_pairs(&mut self.activations, pairs.items(), scratch.items());
         self.go_to(next);
+    }
+
+    // An Assume: it passes, or base frames take the version's place.
+    fn assume(
+        &mut self,
+        guards: &Guards,
+        back: u32,
+        target: &Point,
+        next: Label,
+    ) -> Result<Step, NoMemory>
+        requires early { IsEarly (state_of self.old) }
+        requires back { back ≤ self.old.base_turns }
+        requires guards { All (IsGuardWithin (length (active_regs self.old.activations.top))) guards.now }
+        requires point { (P : Program) × IsPointFine P (length (active_regs self.old.activations.top)) target.now }
+        ensures made { IfOk result (λ step. (args : List ℤ) →
+            IsVersionStep (Assume guards.now back target.now next) args (state_of self.old) (state_of self.new) step) }
+        ensures looks { IfOk result (λ step. self.new.looks ≡ self.old.looks) }
+        ensures only_then { IfErr result (λ refused.
+            VersionTakesMemory (version_effect (Assume guards.now back target.now next) (active_regs self.old.activations.top) self.old.memory)) }
+    {
+        if guards_hold(guards.items(), self.activations.top_registers()) {
+            self.pass(next);
+            Ok(Step::Goes)
+        } else {
+            self.rebuild(back, target)?;
+            Ok(Step::Fails)
+        }
     }
 
     // The guards of an Assume hold.

@@ -1,12 +1,10 @@
 //! Runs over base bodies and over versions that are copies of them.
 
-ghost use Rattle.std.specs.Prelude.{◌≡◌, ◌≢◌, ◌<◌, ◌≤◌, true, length, ⊤, IfOk, OnOk, IsSome, Option};
+ghost use Rattle.std.specs.Prelude.{◌≡◌, ◌≢◌, ◌≤◌, true, length, ⊤, IfOk, IsSome, None};
 ghost use Rattle.cj_ir.specs.WellFormed.{Takes};
-ghost use Rattle.cj_base.specs.Run.{begun};
 ghost use Rattle.cj_draft.specs.Bodies.{IsNoAnchor, HasNoAnchors};
-ghost use Rattle.cj_engine.specs.Stands.{Stands};
 ghost use Rattle.cj_engine.specs.Machines.{state_of};
-ghost use Rattle.cj_engine.specs.OneVersion.{one_code, Fits, OneFits, one_sound};
+ghost use Rattle.cj_engine.specs.OneVersion.{one_code, Fits, OneFits, Walks, one_sound};
 
 use super::*;
 use cj_base::{End, Turned};
@@ -171,6 +169,15 @@ fn cond(then_to: u32, else_to: u32) -> Instr {
     }
 }
 
+// A load into the other register, from the address in the parameter.
+fn load(next: u32) -> Instr {
+    Instr::Load {
+        dest: Reg(1),
+        address: X,
+        next: Label(next),
+    }
+}
+
 fn named(rt: &impl Abort, alloc: Global, name: &str) -> Result<Name, Fail> {
     Ok(Name::of(alloc, name.as_bytes())?.expect(rt, "a name"))
 }
@@ -227,9 +234,8 @@ fn increment(rt: &impl Abort, alloc: Global) -> Result<Checked, Fail> {
     program_of(rt, alloc, instrs)
 }
 
-fn call_of(alloc: Global, argument: i64, cells: u32, limit: u32) -> Result<ScriptCall, Fail>
-    ensures { IfOk result (λ call. call.limit ≡ limit) }
-{
+// A call of main, which has one parameter.
+fn call_of(alloc: Global, argument: i64, cells: u32, limit: u32) -> Result<ScriptCall, Fail> {
     let mut args = Values::new(alloc);
     args.push(argument)?;
     Ok(ScriptCall {
@@ -249,8 +255,10 @@ fn takes(program: &Program, function: FunId, count: usize) -> bool
     }
 }
 
-fn main_if(versioned: bool) -> Option<FunId> {
-    if versioned { Some(MAIN) } else { None }
+fn is_limit(limit: u32) -> bool
+    ensures { result ≡ true → (1 ≤ limit) × (limit ≤ 1000000) }
+{
+    1 <= limit && limit <= 1_000_000
 }
 
 // The look of an entry of a function, where that one has a version.
@@ -259,48 +267,92 @@ fn look_of(versioned: Option<FunId>, function: FunId) -> Look {
     Look { function, offset }
 }
 
-// The report of the main function with an argument, so many cells and a limit. No Assume failed, each turn counted a base
-// turn, and the watch was asked what the report says.
-fn run_main(
+fn are_looks_of(looks: &[Look], versioned: Option<FunId>) -> bool {
+    for look in looks {
+        if *look != look_of(versioned, look.function) {
+            return false;
+        }
+    }
+    true
+}
+
+// The report of the call, where that function has a version. The watch was asked what the report says.
+fn run_call(
     rt: &impl Abort,
     alloc: Global,
     checked: &Checked,
     versioned: Option<FunId>,
     call: &ScriptCall,
-) -> Result<Report, Fail>
-    requires { (1 ≤ call.now.limit) × (call.now.limit ≤ 1000000) }
-{
+) -> Result<Report, Fail> {
     assert!(rt; takes(checked.program(), call.function, call.args.items().len()));
+    assert!(rt; is_limit(call.limit));
     let mut watch = watch_of(rt, alloc, checked, versioned)?;
     let report = run(alloc, checked, call, &mut watch)?;
-    assert_eq!(rt; report.looks.items(), watch.trail.items());
-    for look in report.looks.items() {
-        assert_eq!(rt; *look, look_of(versioned, look.function));
-    }
-    assert_eq!(rt; report.base_turns, report.turns);
-    assert_eq!(rt; report.fails, 0);
-    assert!(rt; report.notes.items().is_empty());
+    assert!(rt; are_looks_of(watch.trail.items(), versioned));
     Ok(report)
+}
+
+// What a run comes to.
+#[derive(Clone, Copy)]
+struct Outcome<'a> {
+    printed: &'a [i64],
+    end: End,
+    turns: u64,
+    looks: usize,
+}
+
+// No Assume failed, and each turn counted a base turn.
+fn is_plain(rt: &impl Abort, report: &Report, outcome: Outcome<'_>) {
+    assert_eq!(rt; report.printed.items(), outcome.printed);
+    assert_eq!(rt; report.end, outcome.end);
+    assert_eq!(rt; report.turns, outcome.turns);
+    assert_eq!(rt; report.base_turns, outcome.turns);
+    assert_eq!(rt; report.fails, 0);
+    assert_eq!(rt; report.notes.items().len(), 0);
+    assert_eq!(rt; report.looks.items().len(), outcome.looks);
+}
+
+// The call comes to this over base bodies, and where that function has a version.
+fn comes_to(
+    rt: &impl Abort,
+    alloc: Global,
+    checked: &Checked,
+    function: FunId,
+    call: &ScriptCall,
+    outcome: Outcome<'_>,
+) -> Result<(), Fail> {
+    let over_base = run_call(rt, alloc, checked, None, call)?;
+    is_plain(rt, &over_base, outcome);
+    let over_version = run_call(rt, alloc, checked, Some(function), call)?;
+    is_plain(rt, &over_version, outcome);
+    Ok(())
 }
 
 #[test]
 fn an_increment_takes_three_turns_and_stops_at_its_limit(rt: HostRuntime) -> Result<(), Fail> {
     let alloc = rt.alloc();
     let checked = increment(&rt, alloc)?;
-    for versioned in [false, true] {
-        for (limit, end, turns) in [
-            (3, End::Returned(5), 3),
-            (9, End::Returned(5), 3),
-            (2, End::TurnLimit, 2),
-        ] {
-            let call = call_of(alloc, 4, 0, limit)?;
-            let report = run_main(&rt, alloc, &checked, main_if(versioned), &call)?;
-            assert_eq!(rt; report.printed.items(), [5].as_slice());
-            assert_eq!(rt; report.end, end);
-            assert_eq!(rt; report.turns, turns);
-            assert_eq!(rt; report.looks.items().len(), 1);
-        }
-    }
+    let stopped = Outcome {
+        printed: &[5],
+        end: End::TurnLimit,
+        turns: 2,
+        looks: 1,
+    };
+    let whole = Outcome {
+        end: End::Returned(5),
+        turns: 3,
+        ..stopped
+    };
+    comes_to(
+        &rt,
+        alloc,
+        &checked,
+        MAIN,
+        &call_of(alloc, 4, 0, 2)?,
+        stopped,
+    )?;
+    comes_to(&rt, alloc, &checked, MAIN, &call_of(alloc, 4, 0, 3)?, whole)?;
+    comes_to(&rt, alloc, &checked, MAIN, &call_of(alloc, 4, 0, 9)?, whole)?;
     Ok(())
 }
 
@@ -319,14 +371,14 @@ fn descent(rt: &impl Abort, alloc: Global) -> Result<Checked, Fail> {
 fn ten_thousand_calls_wait_for_each_other(rt: HostRuntime) -> Result<(), Fail> {
     let alloc = rt.alloc();
     let checked = descent(&rt, alloc)?;
+    let outcome = Outcome {
+        printed: &[],
+        end: End::Returned(10_000),
+        turns: 40_002,
+        looks: 10_001,
+    };
     let call = call_of(alloc, 10_000, 0, 1_000_000)?;
-    for versioned in [false, true] {
-        let report = run_main(&rt, alloc, &checked, main_if(versioned), &call)?;
-        assert_eq!(rt; report.end, End::Returned(10_000));
-        assert_eq!(rt; report.turns, 40_002);
-        assert_eq!(rt; report.looks.items().len(), 10_001);
-    }
-    Ok(())
+    comes_to(&rt, alloc, &checked, MAIN, &call, outcome)
 }
 
 // Main calls mid, which calls low, which prints.
@@ -350,14 +402,15 @@ fn base_bodies_and_versions_call_each_other(rt: HostRuntime) -> Result<(), Fail>
     let alloc = rt.alloc();
     let checked = nested(&rt, alloc)?;
     let call = call_of(alloc, 5, 0, 100)?;
-    for number in 0..3 {
-        let versioned = Some(FunId(number));
-        let report = run_main(&rt, alloc, &checked, versioned, &call)?;
-        assert_eq!(rt; report.printed.items(), [5].as_slice());
-        assert_eq!(rt; report.end, End::Returned(6));
-        assert_eq!(rt; report.turns, 7);
-        assert_eq!(rt; report.looks.items().len(), 3);
-    }
+    let outcome = Outcome {
+        printed: &[5],
+        end: End::Returned(6),
+        turns: 7,
+        looks: 3,
+    };
+    comes_to(&rt, alloc, &checked, MAIN, &call, outcome)?;
+    comes_to(&rt, alloc, &checked, FunId(1), &call, outcome)?;
+    comes_to(&rt, alloc, &checked, FunId(2), &call, outcome)?;
     Ok(())
 }
 
@@ -368,70 +421,74 @@ fn faulty(rt: &impl Abort, alloc: Global) -> Result<Checked, Fail> {
         value: Operand::Const(7),
         next: Label(2),
     };
-    let load = Instr::Load {
-        dest: Reg(1),
-        address: X,
-        next: Label(3),
-    };
     let instrs = vec![in alloc;
         op(1, Expr::Div(Operand::Const(63), X), 1),
         store,
-        load,
+        load(3),
         Instr::Fail { text },
     ]?;
     program_of(rt, alloc, instrs)
+}
+
+// A call with 64 cells ends so.
+fn ends(
+    rt: &impl Abort,
+    alloc: Global,
+    checked: &Checked,
+    argument: i64,
+    end: End,
+    turns: u64,
+) -> Result<(), Fail> {
+    let call = call_of(alloc, argument, 64, 9)?;
+    let outcome = Outcome {
+        printed: &[],
+        end,
+        turns,
+        looks: 1,
+    };
+    comes_to(rt, alloc, checked, MAIN, &call, outcome)
 }
 
 #[test]
 fn faults_end_a_run(rt: HostRuntime) -> Result<(), Fail> {
     let alloc = rt.alloc();
     let checked = faulty(&rt, alloc)?;
-    let label = Label(3);
-    for versioned in [false, true] {
-        for (argument, end, turns) in [
-            (0, End::Divide, 1),
-            (64, End::Address(64), 2),
-            (-1, End::Address(-1), 2),
-            (
-                63,
-                End::Failed {
-                    function: MAIN,
-                    label,
-                },
-                4,
-            ),
-        ] {
-            let call = call_of(alloc, argument, 64, 9)?;
-            let report = run_main(&rt, alloc, &checked, main_if(versioned), &call)?;
-            assert_eq!(rt; report.end, end, "at {argument}");
-            assert_eq!(rt; report.turns, turns, "at {argument}");
-        }
-    }
-    Ok(())
+    let failed = End::Failed {
+        function: MAIN,
+        label: Label(3),
+    };
+    ends(&rt, alloc, &checked, 0, End::Divide, 1)?;
+    ends(&rt, alloc, &checked, 64, End::Address(64), 2)?;
+    ends(&rt, alloc, &checked, -1, End::Address(-1), 2)?;
+    ends(&rt, alloc, &checked, 63, failed, 4)
 }
 
-#[test]
-fn a_loop_goes_round(rt: HostRuntime) -> Result<(), Fail> {
-    let alloc = rt.alloc();
+fn countdown(rt: &impl Abort, alloc: Global) -> Result<Checked, Fail> {
     let instrs = vec![in alloc;
         cond(1, 3),
         print(X, 2),
         op(0, Expr::Sub(X, Operand::Const(1)), 0),
         Instr::Return { value: X },
     ]?;
-    let checked = program_of(&rt, alloc, instrs)?;
-    let call = call_of(alloc, 3, 0, 100)?;
-    for versioned in [false, true] {
-        let report = run_main(&rt, alloc, &checked, main_if(versioned), &call)?;
-        assert_eq!(rt; report.printed.items(), [3, 2, 1].as_slice());
-        assert_eq!(rt; report.end, End::Returned(0));
-        assert_eq!(rt; report.turns, 11);
-    }
-    Ok(())
+    program_of(rt, alloc, instrs)
 }
 
-// A run of the call after its start.
-#[tactic(auto, using(crate::proofs::Walking::start_stands))]
+#[test]
+fn a_loop_goes_round(rt: HostRuntime) -> Result<(), Fail> {
+    let alloc = rt.alloc();
+    let checked = countdown(&rt, alloc)?;
+    let outcome = Outcome {
+        printed: &[3, 2, 1],
+        end: End::Returned(0),
+        turns: 11,
+        looks: 1,
+    };
+    let call = call_of(alloc, 3, 0, 100)?;
+    comes_to(&rt, alloc, &checked, MAIN, &call, outcome)
+}
+
+// A start over a memory of the cells 8 and 9.
+#[tactic(auto, using(crate::proofs::Walking::run_walks))]
 fn started<'p>(
     alloc: Global,
     checked: &'p Checked,
@@ -442,42 +499,42 @@ fn started<'p>(
     requires limit { (1 ≤ call.now.limit) × (call.now.limit ≤ 1000000) }
     requires program { watch.old.checked.now ≡ checked.now }
     requires fits { OneFits watch.old.checked.now watch.old.version }
-    ensures stands { IfOk result (λ engine. Stands checked.now (one_code watch.new.version) (begun call.now) (state_of engine.machine)) }
+    ensures walks { IfOk result (λ engine. Walks checked.now watch.new.version engine.machine.looks call.now.limit (state_of engine.machine)) }
     ensures checked { IfOk result (λ engine. engine.checked.now ≡ checked.now) }
     ensures program { watch.new.checked.now ≡ checked.now }
     ensures fits { OneFits watch.new.checked.now watch.new.version }
 {
-    let _program = checked.program();
-    Engine::start(alloc, checked, call, watch)
+    let mut memory = Values::new(alloc);
+    memory.push(8)?;
+    memory.push(9)?;
+    let engine = Engine::start_with(alloc, checked, call, memory, watch)?;
+    Ok(engine)
 }
 
-// A turn of the call's run. `None`: it went on.
-#[tactic(auto, using(crate::proofs::Walking::under_way))]
+// A turn of a run with that limit. `None`: it went on.
 fn turned(
     rt: &impl Abort,
     engine: &mut Engine<'_>,
-    call: &ScriptCall,
+    limit: u32,
     watch: &mut OneVersion<'_>,
 ) -> Result<Option<End>, NoMemory>
-    requires takes { Takes engine.old.checked.now.functions call.now.function (length call.now.args) }
-    requires limit { call.now.limit ≤ 1000000 }
     requires program { watch.old.checked.now ≡ engine.old.checked.now }
     requires fits { OneFits watch.old.checked.now watch.old.version }
-    requires stands { Stands engine.old.checked.now (one_code watch.old.version) (begun call.now) (state_of engine.old.machine) }
-    ensures stands { IfOk result (λ end. end ≡ None → Stands engine.new.checked.now (one_code watch.new.version) (begun call.now) (state_of engine.new.machine)) }
+    requires walks { Walks engine.old.checked.now watch.old.version engine.old.machine.looks limit (state_of engine.old.machine) }
+    ensures walks { IfOk result (λ end. end ≡ None → Walks engine.new.checked.now watch.new.version engine.new.machine.looks limit (state_of engine.new.machine)) }
     ensures checked { engine.new.checked ≡ engine.old.checked }
     ensures program { watch.new.checked.now ≡ watch.old.checked.now }
     ensures fits { OneFits watch.new.checked.now watch.new.version }
 {
     assert!(rt; engine.running());
-    assert!(rt; engine.turns() < u64::from(call.limit));
+    assert!(rt; engine.turns() < u64::from(limit));
     match engine.turn(watch)? {
         Turned::Running => Ok(None),
         Turned::Ended(end) => Ok(Some(end)),
     }
 }
 
-// Where a run is: its registers, its prints, how many turns it made, and whether it goes on.
+// Where a run of main is: its registers, its prints, how many turns it made, and whether it goes on.
 fn is_at(
     rt: &impl Abort,
     engine: &Engine<'_>,
@@ -485,36 +542,44 @@ fn is_at(
     printed: &[i64],
     turns: u64,
     running: bool,
-    versioned: Option<FunId>,
 ) {
     assert_eq!(rt; engine.registers(), registers);
     assert_eq!(rt; engine.printed().items(), printed);
     assert_eq!(rt; engine.turns(), turns);
     assert_eq!(rt; engine.base_turns(), turns);
     assert_eq!(rt; engine.running(), running);
-    assert_eq!(rt;
-        engine.looks().items(),
-        [look_of(versioned, MAIN)].as_slice()
-    );
+    assert_eq!(rt; engine.looks().items().len(), 1);
+}
+
+// The turns of a load, a print and a return.
+fn walk(
+    rt: &impl Abort,
+    alloc: Global,
+    checked: &Checked,
+    versioned: Option<FunId>,
+) -> Result<(), Fail> {
+    let call = call_of(alloc, 1, 0, 9)?;
+    assert!(rt; takes(checked.program(), call.function, call.args.items().len()));
+    assert!(rt; is_limit(call.limit));
+    let mut watch = watch_of(rt, alloc, checked, versioned)?;
+    let mut engine = started(alloc, checked, &call, &mut watch)?;
+    is_at(rt, &engine, &[1, 0], &[], 0, true);
+    assert_eq!(rt; turned(rt, &mut engine, call.limit, &mut watch)?, None);
+    is_at(rt, &engine, &[1, 9], &[], 1, true);
+    assert_eq!(rt; turned(rt, &mut engine, call.limit, &mut watch)?, None);
+    is_at(rt, &engine, &[1, 9], &[9], 2, true);
+    let end = turned(rt, &mut engine, call.limit, &mut watch)?;
+    assert_eq!(rt; end, Some(End::Returned(9)));
+    is_at(rt, &engine, &[1, 9], &[9], 3, false);
+    assert!(rt; are_looks_of(watch.trail.items(), versioned));
+    Ok(())
 }
 
 #[test]
-fn the_turns_of_an_increment(rt: HostRuntime) -> Result<(), Fail> {
+fn the_turns_of_a_load_from_a_given_memory(rt: HostRuntime) -> Result<(), Fail> {
     let alloc = rt.alloc();
-    let checked = increment(&rt, alloc)?;
-    let call = call_of(alloc, 4, 0, 9)?;
-    for versioned in [None, Some(MAIN)] {
-        let mut watch = watch_of(&rt, alloc, &checked, versioned)?;
-        assert!(rt; takes(checked.program(), call.function, call.args.items().len()));
-        let mut engine = started(alloc, &checked, &call, &mut watch)?;
-        is_at(&rt, &engine, &[4, 0], &[], 0, true, versioned);
-        assert_eq!(rt; turned(&rt, &mut engine, &call, &mut watch)?, None);
-        is_at(&rt, &engine, &[4, 5], &[], 1, true, versioned);
-        assert_eq!(rt; turned(&rt, &mut engine, &call, &mut watch)?, None);
-        is_at(&rt, &engine, &[4, 5], &[5], 2, true, versioned);
-        let end = turned(&rt, &mut engine, &call, &mut watch)?;
-        assert_eq!(rt; end, Some(End::Returned(5)));
-        is_at(&rt, &engine, &[4, 5], &[5], 3, false, versioned);
-    }
-    Ok(())
+    let instrs = vec![in alloc; load(1), print(Y, 2), Instr::Return { value: Y }]?;
+    let checked = program_of(&rt, alloc, instrs)?;
+    walk(&rt, alloc, &checked, None)?;
+    walk(&rt, alloc, &checked, Some(MAIN))
 }

@@ -1,19 +1,27 @@
+use Rattle.std.proofs.Common.{◌≡◌, List, replicate, pos, subst}
+use Rattle.std.specs.Prelude.{ℤ, slice_get}
 use Rattle.cj_base.specs.Run.{begun}
+use Rattle.cj_engine.specs.Versions.{Continues}
+use Rattle.cj_engine.specs.VersionRuns.{version_start}
 use Rattle.cj_engine.specs.Machines.{state_of}
 use Rattle.cj_engine.specs.Marks.{start_marks}
-use Rattle.cj_engine.proofs.Carrying.{start_made}
+use Rattle.cj_engine.specs.Engines.{begun_with, IsRun}
 use Rattle.cj_engine.proofs.engine.Engine.start.Goals as goal
 
 pub returns-clause-made : goal.returns-clause-made
-unfolding state_of
+unfolding begun begun_with
 returns-clause-made g c =
-    let memory = rw c.new-memory.ensures at c.in_ok-push_zeros.ensures in
-    let looks = rw c.new-looks.ensures at c.in_ok-push.ensures.ok in
-    let stack = rw c.items-args.ensures at c.in_ok-activations.ensures in
-    start_made c.args.checked.now (g.W.Watch.codes c.enter.new.self) c.args.call.now c.push_zeros.new.values c.new-2.result c.push.new.self c.new-3.result _
-    c.entry_at-entry.result.position c.entry_at-entry.result.count c.in_ok-activations.activations
-    memory c.new-2.ensures c.new-3.ensures looks (c.entry_at-entry.ensures c.args.call.now.args) stack
+    let zeros : c.push_zeros.new.values ≡ replicate c.args.call.now.cells (pos 0) = rw c.new-memory.ensures at c.in_ok-push_zeros.ensures in
+    let m = c.in_ok-engine.engine.machine in
+    subst (λ (memory : List ℤ). version_start c.args.checked.now (g.W.Watch.codes c.start_with.new.watch) (slice_get m.looks 0) (begun_with c.args.call.now memory) ≡ Continues (state_of m)) zeros c.in_ok-engine.ensures.made
+
+pub returns-clause-run : goal.returns-clause-run
+unfolding begun begun_with
+returns-clause-run g c =
+    let zeros : c.push_zeros.new.values ≡ replicate c.args.call.now.cells (pos 0) = rw c.new-memory.ensures at c.in_ok-push_zeros.ensures in
+    let m = c.in_ok-engine.engine.machine in
+    subst (λ (memory : List ℤ). IsRun c.args.checked.now (g.W.Watch.codes c.start_with.new.watch) m.looks (begun_with c.args.call.now memory) (state_of m)) zeros c.in_ok-engine.ensures.run
 
 pub returns-clause-went : goal.returns-clause-went
-unfolding start_marks begun
-returns-clause-went g c = rw c.items-args.ensures at c.in_ok-offset.ensures.went
+unfolding begun begun_with start_marks
+returns-clause-went g c = c.in_ok-engine.ensures.went

@@ -2,7 +2,7 @@ use Rattle.std.proofs.Common.{◌∙◌, sym, ap, length, get_or, Some}
 use Rattle.cj_ir.specs.Program.{label_count}
 use Rattle.cj_engine.specs.Machines.{state_of}
 use Rattle.cj_engine.proofs.Fitting.{base_top, gains_from}
-use Rattle.cj_engine.proofs.Turning.{base_fine, base_step_ready, base_turn_done, base_marks_done, version_key, label_below, version_fine, version_few, version_back, version_step_ready, version_turn_done, version_marks_done, place_read, at_looks}
+use Rattle.cj_engine.proofs.Turning.{base_fine, base_step_ready, base_takes, base_entry_takes, base_turn_done, base_marks_done, version_key, label_below, version_fine, version_few, version_back, version_step_ready, version_takes, version_entry_takes, version_turn_done, version_marks_done, place_read, at_looks, refused_then}
 use Rattle.cj_engine.proofs.engine.Engine.turn_at.Goals as goal
 
 pub line-requires : goal.line-requires
@@ -152,3 +152,43 @@ returns-in_ok-turned-in-Version-clause-went g c =
     let found = c.version.ensures.code ∙ ap Some (sym c.code-code.ensures.same) in
     let place = place_read c.code-code.result.now c.in-Version.label c.items.result.now c.index-items-label.result c.items.ensures (label_below P codes s c.in-Version.function c.in-Version.offset c.in-Version.label at c.requires.can c.code-code.result.now found) in
     rw (version_marks_done P codes s c.in-Version.function c.in-Version.offset c.in-Version.label at c.requires.can c.code-code.result.now found (get_or c.items.result.now c.in-Version.label.0 c.index-items-label.result) place (state_of c.step_version.new.self) c.step_version.new.scratch.values.items c.in_ok-step-in-Version.step c.in_ok-step-in-Version.ensures.made (g.W.Watch.codes c.carry-in-Version.new.watch) c.carry-in-Version.ensures.grows) c.in_ok-turned-in-Version.ensures.went
+
+pub returns-in_err-step-in-Base-clause-only_then : goal.returns-in_err-step-in-Base-clause-only_then
+unfolding state_of
+returns-in_err-step-in-Base-clause-only_then g c =
+    let P = c.args.self.now.checked.now in
+    let codes = g.W.Watch.codes c.args.watch.now in
+    let s = state_of c.args.self.now.machine in
+    let at = c.requires.position ∙ c.in-Base.is in
+    refused_then _ _ (base_takes P codes s c.in-Base.function c.in-Base.label c.line.result.now at c.requires.can c.line.ensures.found c.in_err-step-in-Base.ensures.only_then)
+
+pub returns-in_err-turned-in-Base-clause-only_then : goal.returns-in_err-turned-in-Base-clause-only_then
+unfolding state_of
+returns-in_err-turned-in-Base-clause-only_then g c =
+    let P = c.args.self.now.checked.now in
+    let codes = g.W.Watch.codes c.args.watch.now in
+    let s = state_of c.args.self.now.machine in
+    let at = c.requires.position ∙ c.in-Base.is in
+    refused_then _ _ (base_entry_takes P codes s c.in-Base.function c.in-Base.label c.line.result.now at c.requires.can c.line.ensures.found (state_of c.step_base.new.self) c.step_base.new.scratch.values.items c.in_ok-step-in-Base.step c.in_ok-step-in-Base.ensures.made c.in_err-turned-in-Base.ensures.only_then)
+
+pub returns-in_err-step-in-Version-clause-only_then : goal.returns-in_err-step-in-Version-clause-only_then
+unfolding state_of
+returns-in_err-step-in-Version-clause-only_then g c =
+    let P = c.args.self.now.checked.now in
+    let codes = g.W.Watch.codes c.args.watch.now in
+    let s = state_of c.args.self.now.machine in
+    let at = c.requires.position ∙ c.in-Version.is in
+    let found = c.version.ensures.code ∙ ap Some (sym c.code-code.ensures.same) in
+    let place = place_read c.code-code.result.now c.in-Version.label c.items.result.now c.index-items-label.result c.items.ensures (label_below P codes s c.in-Version.function c.in-Version.offset c.in-Version.label at c.requires.can c.code-code.result.now found) in
+    refused_then _ _ (version_takes P codes s c.in-Version.function c.in-Version.offset c.in-Version.label at c.requires.can c.code-code.result.now found (get_or c.items.result.now c.in-Version.label.0 c.index-items-label.result) place c.in_err-step-in-Version.ensures.only_then)
+
+pub returns-in_err-turned-in-Version-clause-only_then : goal.returns-in_err-turned-in-Version-clause-only_then
+unfolding state_of
+returns-in_err-turned-in-Version-clause-only_then g c =
+    let P = c.args.self.now.checked.now in
+    let codes = g.W.Watch.codes c.args.watch.now in
+    let s = state_of c.args.self.now.machine in
+    let at = c.requires.position ∙ c.in-Version.is in
+    let found = c.version.ensures.code ∙ ap Some (sym c.code-code.ensures.same) in
+    let place = place_read c.code-code.result.now c.in-Version.label c.items.result.now c.index-items-label.result c.items.ensures (label_below P codes s c.in-Version.function c.in-Version.offset c.in-Version.label at c.requires.can c.code-code.result.now found) in
+    refused_then _ _ (version_entry_takes P codes s c.in-Version.function c.in-Version.offset c.in-Version.label at c.requires.can c.code-code.result.now found (get_or c.items.result.now c.in-Version.label.0 c.index-items-label.result) place (state_of c.step_version.new.self) c.step_version.new.scratch.values.items c.in_ok-step-in-Version.step c.in_ok-step-in-Version.ensures.made c.in_err-turned-in-Version.ensures.only_then)

@@ -1,16 +1,16 @@
-use Rattle.std.proofs.Common.{◌≡◌, ◌∙◌, refl, sym, ap, arith, [], ◌∷◌, to_z, of_z, w64, Bool}
+use Rattle.std.proofs.Common.{◌≡◌, refl, ap, arith, [], ◌∷◌, to_z, of_z, w64}
 use Rattle.std.proofs.lemmas.Grind.{common_steps}
 use Rattle.cj_base.specs.declared.machine.End.TheVariants.{Failed}
 use Rattle.cj_base.specs.Machine.{Faults, FailedAt, end_of, On, op_effect, load_effect, store_effect, branch}
 use Rattle.cj_base.specs.declared.machine.Turned.TheVariants.{Running, Ended}
 use Rattle.cj_ir.specs.Values.{operand_value}
 use Rattle.cj_draft.specs.declared.instructions.VInstr.TheVariants as version
-use Rattle.cj_draft.specs.Effects.{version_effect, moved, Guarded}
+use Rattle.cj_draft.specs.Effects.{version_effect, moved}
 use Rattle.cj_activations.specs.Changes.{active_regs}
 use Rattle.cj_engine.specs.Machines.{state_of}
 use Rattle.cj_engine.specs.Versions.{Continues, Finishes}
 use Rattle.cj_engine.specs.Stepping.{step_of}
-use Rattle.cj_engine.proofs.Arriving.{version_by, version_enters, version_returns, version_passes_by, version_fails_by, version_needs}
+use Rattle.cj_engine.proofs.Arriving.{version_by, version_enters, version_returns, version_passes_by, version_needs}
 use Rattle.cj_engine.proofs.machine.Machine.step_version.Goals as goal
 
 pub returns-in-Nop-clause-made : goal.returns-in-Nop-clause-made
@@ -91,25 +91,12 @@ returns-in-Fail-clause-made c =
 pub returns-in-Anchor-clause-made : goal.returns-in-Anchor-clause-made
 unfolding version_effect state_of
 returns-in-Anchor-clause-made c =
-    rw c.in-Anchor.is (version_passes_by (version.Anchor c.in-Anchor.back c.in-Anchor.target c.in-Anchor.next) _ _ _ c.in-Anchor.back c.in-Anchor.target c.in-Anchor.next refl c.pass-in-Anchor.ensures.made)
+    rw c.in-Anchor.is (version_passes_by (version.Anchor c.in-Anchor.back c.in-Anchor.target c.in-Anchor.next) _ _ _ c.in-Anchor.back c.in-Anchor.target c.in-Anchor.next refl c.pass.ensures.made)
 
-pub returns-then-guards_hold-clause-made : goal.returns-then-guards_hold-clause-made
-unfolding version_effect state_of
-returns-then-guards_hold-clause-made c =
-    let found = rw (c.top_registers-in-Assume.ensures, c.items-in-Assume.ensures) at c.guards_hold.ensures in
-    let holds = ap (λ (b : Bool). Guarded b c.in-Assume.back c.in-Assume.target c.in-Assume.next) (sym found ∙ c.if-guards_hold.true) in
-    rw c.in-Assume.is (version_passes_by (version.Assume c.in-Assume.guards c.in-Assume.back c.in-Assume.target c.in-Assume.next) _ _ _ c.in-Assume.back c.in-Assume.target c.in-Assume.next holds c.pass.ensures.made)
+pub returns-in_ok-assume-in-Assume-clause-made : goal.returns-in_ok-assume-in-Assume-clause-made
+unfolding state_of
+returns-in_ok-assume-in-Assume-clause-made c = rw c.in-Assume.is (c.in_ok-assume-in-Assume.ensures.made _)
 
-pub returns-in_ok-rebuild-in-Assume-clause-made : goal.returns-in_ok-rebuild-in-Assume-clause-made
-unfolding version_effect state_of
-returns-in_ok-rebuild-in-Assume-clause-made c =
-    let found = rw (c.top_registers-in-Assume.ensures, c.items-in-Assume.ensures) at c.guards_hold.ensures in
-    let fails = ap (λ (b : Bool). Guarded b c.in-Assume.back c.in-Assume.target c.in-Assume.next) (sym found ∙ c.if-guards_hold.false) in
-    rw c.in-Assume.is (version_fails_by (version.Assume c.in-Assume.guards c.in-Assume.back c.in-Assume.target c.in-Assume.next) _ _ _ c.in-Assume.back c.in-Assume.target c.in-Assume.next fails c.in_ok-rebuild-in-Assume.ensures.made)
-
-pub returns-in_err-rebuild-in-Assume-clause-only_then : goal.returns-in_err-rebuild-in-Assume-clause-only_then
-unfolding version_effect
-returns-in_err-rebuild-in-Assume-clause-only_then c =
-    let old = c.args.self.now in
-    let found = rw (c.top_registers-in-Assume.ensures, c.items-in-Assume.ensures) at c.guards_hold.ensures in
-    rw c.in-Assume.is (version_needs _ (version_effect (version.Assume c.in-Assume.guards c.in-Assume.back c.in-Assume.target c.in-Assume.next) (active_regs old.activations.top) old.memory) (sym found ∙ c.if-guards_hold.false))
+pub returns-in_err-assume-in-Assume-clause-only_then : goal.returns-in_err-assume-in-Assume-clause-only_then
+returns-in_err-assume-in-Assume-clause-only_then c =
+    rw c.in-Assume.is (version_needs _ _ c.in_err-assume-in-Assume.ensures.only_then)
