@@ -101,21 +101,24 @@ fn labels(alloc: Global, numbers: &[u32]) -> Result<Labels, Fail> {
     Ok(labels)
 }
 
-fn base_of(rt: &impl Abort, alloc: Global, number: u32) -> Result<Draft, Fail> {
-    let checked = program(rt, alloc)?;
+fn base_of<'p>(
+    rt: &impl Abort,
+    alloc: Global,
+    checked: &'p Checked,
+    number: u32,
+) -> Result<Draft<'p>, Fail> {
     assert!(rt; (number as usize) < checked.program().functions.items().len());
-    Ok(Draft::of_base(alloc, &checked, FunId(number))?)
+    Ok(Draft::of_base(alloc, checked, FunId(number))?)
 }
 
 // Anchors before labels of a base body, of which just one is skipped.
-fn anchored(
+fn anchored<'p>(
     rt: &impl Abort,
-    alloc: Global,
-    number: u32,
-    before: &[u32],
+    draft: Draft<'p>,
+    before: &Labels,
     skip: (u32, Skipped),
-) -> Result<Draft, Fail> {
-    let (draft, skips) = insert_anchors(base_of(rt, alloc, number)?, &labels(alloc, before)?)?;
+) -> Result<Draft<'p>, Fail> {
+    let (draft, skips) = insert_anchors(draft, before)?;
     assert_eq!(rt; skips.items().len(), 1);
     let (at, skipped) = skips.items()[0];
     assert_eq!(rt; at, skip.0);
@@ -125,7 +128,8 @@ fn anchored(
 
 #[test]
 fn a_base_body_keeps_its_labels(rt: HostRuntime) -> Result<(), Fail> {
-    let version = lower(base_of(&rt, rt.alloc(), 0)?)?;
+    let checked = program(&rt, rt.alloc())?;
+    let version = lower(base_of(&rt, rt.alloc(), &checked, 0)?)?;
     let code = version.code();
     has_places(&rt, code, 0, 3)?;
     goes_to(&rt, code, 0, 1)?;
@@ -135,7 +139,8 @@ fn a_base_body_keeps_its_labels(rt: HostRuntime) -> Result<(), Fail> {
 
 #[test]
 fn a_label_that_is_not_reached_goes(rt: HostRuntime) -> Result<(), Fail> {
-    let version = lower(base_of(&rt, rt.alloc(), 1)?)?;
+    let checked = program(&rt, rt.alloc())?;
+    let version = lower(base_of(&rt, rt.alloc(), &checked, 1)?)?;
     let code = version.code();
     has_places(&rt, code, 0, 2)?;
     goes_to(&rt, code, 0, 1)?;
@@ -144,8 +149,11 @@ fn a_label_that_is_not_reached_goes(rt: HostRuntime) -> Result<(), Fail> {
 
 #[test]
 fn edges_go_past_the_anchors_that_were_inserted(rt: HostRuntime) -> Result<(), Fail> {
+    let checked = program(&rt, rt.alloc())?;
     let no_place = Skipped::NoPlace { label: Label(5) };
-    let draft = anchored(&rt, rt.alloc(), 1, &[0, 5, 2, 0], (1, no_place))?;
+    let before = labels(rt.alloc(), &[0, 5, 2, 0])?;
+    let draft = base_of(&rt, rt.alloc(), &checked, 1)?;
+    let draft = anchored(&rt, draft, &before, (1, no_place))?;
     let code = draft.code();
     has_places(&rt, code, 3, 6)?;
     stands_for(&rt, code, 4, 2)?;
@@ -161,12 +169,14 @@ fn edges_go_past_the_anchors_that_were_inserted(rt: HostRuntime) -> Result<(), F
 
 #[test]
 fn a_ninth_anchor_of_a_row_is_skipped(rt: HostRuntime) -> Result<(), Fail> {
+    let checked = program(&rt, rt.alloc())?;
     let full = Skipped::Full {
         room: Room::Row,
         count: 9,
     };
-    let before = [0, 0, 0, 0, 0, 0, 0, 0, 0, 1];
-    let draft = anchored(&rt, rt.alloc(), 0, &before, (8, full))?;
+    let before = labels(rt.alloc(), &[0, 0, 0, 0, 0, 0, 0, 0, 0, 1])?;
+    let draft = base_of(&rt, rt.alloc(), &checked, 0)?;
+    let draft = anchored(&rt, draft, &before, (8, full))?;
     assert_eq!(rt; draft.code().places.items().len(), 12);
     has_places(&rt, lower(draft)?.code(), 0, 3)
 }

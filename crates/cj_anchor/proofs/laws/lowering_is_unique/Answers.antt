@@ -2,4 +2,4 @@ use Rattle.cj_anchor.proofs.Unique.{lowering_unique}
 use Rattle.cj_anchor.proofs.laws.lowering_is_unique.Goals as goal
 
 pub returns : goal.returns
-returns c = lowering_unique c.args.code.now c.args.one.now c.args.other.now c.requires.one c.requires.other
+returns c = lowering_unique

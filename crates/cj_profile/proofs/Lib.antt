@@ -1,0 +1,7 @@
+mod Numbers
+mod Keeping
+mod Limiting
+mod Parts
+mod Taking
+mod Adding
+mod Shaping

@@ -1,0 +1,10 @@
+pub mod Words
+pub mod Reads
+pub mod Jobs
+pub mod Snapshots
+pub mod Rule
+pub mod Seats
+pub mod Shapes
+pub mod Steps
+pub mod Limits
+pub mod Worked

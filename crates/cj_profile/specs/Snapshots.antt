@@ -1,0 +1,36 @@
+-- What a snapshot tells of a function: the values that its own loads found.
+use Rattle.std.specs.Prelude.{◌≡◌, ℕ, suc, List, [], ◌∷◌, ◌++◌, length}
+use Rattle.cj_ir.specs.Program.{param_count, label_count}
+use Rattle.cj_ir.specs.declared.language.FunId.{FunId}
+use Rattle.cj_ir.specs.declared.language.Label.{Label}
+use Rattle.cj_ir.specs.declared.language.Program.{Program}
+use Rattle.cj_ir.specs.declared.language.Edge.TheVariants.{Then, Else}
+use Rattle.cj_profile.specs.Words.{value_word}
+use Rattle.cj_profile.specs.Reads.{load}
+use Rattle.cj_profile.specs.declared.layout.Word.TheVariants.{Calls, Failures, Last, Agreed, Way}
+use Rattle.cj_profile.specs.declared.view.Read.{Read}
+use Rattle.cj_profile.specs.declared.snapshot.ParamNote.{ParamNote}
+use Rattle.cj_profile.specs.declared.snapshot.EdgeNote.{EdgeNote}
+use Rattle.cj_profile.specs.declared.snapshot.Snapshot.{Snapshot}
+
+-- the loads of these parameters, from that one on
+abbrev pub param_loads : FunId → ℕ → List ParamNote → List Read
+param_loads f param [] = []
+param_loads f param (note ∷ notes) =
+    load (Last f param) (value_word note.last) ∷ load (Agreed f param) note.agreed ∷ param_loads f (suc param) notes
+
+-- the loads of these labels, from that one on
+abbrev pub edge_loads : FunId → ℕ → List EdgeNote → List Read
+edge_loads f next [] = []
+edge_loads f next (note ∷ notes) =
+    let label : Label = record { 0 = next } in
+    load (Way f label Then) note.then_count ∷ load (Way f label Else) note.else_count ∷ edge_loads f (suc next) notes
+
+-- all loads of a snapshot, in the order of their words
+abbrev pub snapshot_loads : FunId → Snapshot → List Read
+snapshot_loads f s =
+    load (Calls f) s.calls ∷ load (Failures f) s.fails ∷ (param_loads f 0 s.params ++ edge_loads f 0 s.edges)
+
+-- it has as many parameters and labels as the function
+abbrev pub FitsFunction : Program → FunId → Snapshot → Type 0
+FitsFunction p f s = (length s.params ≡ param_count p f) × (length s.edges ≡ label_count p f)

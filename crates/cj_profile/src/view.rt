@@ -1,0 +1,20 @@
+//! What a seat knows. No value of these types is made.
+
+use cj_ir::Program;
+use std::collections::LinkedList;
+
+/// A step: the number of its word, the value that it found (none at a store), and the value that it left.
+pub struct Read {
+    pub word: u64,
+    pub found: Option<u64>,
+    pub left: u64,
+}
+
+/// Whether the seat was not joined into another yet, the profile's program, the steps that the seat made, and those of
+/// the seats that were joined into it, a list for each.
+pub struct View {
+    pub live: bool,
+    pub program: Program,
+    pub reads: LinkedList<Read>,
+    pub joined: LinkedList<LinkedList<Read>>,
+}
