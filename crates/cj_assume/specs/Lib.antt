@@ -1,1 +1,4 @@
 pub mod ImmediateAssume
+pub mod DelayedAssume
+pub mod CountedEdges
+pub mod DelaySteps

@@ -65,7 +65,7 @@ pub(crate) fn guards_at(code: &Code, label: Label) -> Option<usize>
 }
 
 /// The first of the guards whose register is not in a draft with that many.
-fn register_offence(regs: u32, guards: &[Guard]) -> Option<Skipped>
+pub(crate) fn register_offence(regs: u32, guards: &[Guard]) -> Option<Skipped>
     ensures { result ≡ register_offence regs guards.now }
 {
     for guard in guards {
@@ -111,7 +111,7 @@ fn full_offence(code: &Code, anchor: Label, count: usize, own: Option<usize>) ->
 }
 
 /// Whether an Assume has too many guards, its own and others.
-fn guards_offence(own: usize, count: usize) -> Option<Skipped>
+pub(crate) fn guards_offence(own: usize, count: usize) -> Option<Skipped>
     ensures { result ≡ guards_offence (own + count) }
 {
     let all = own.saturating_add(count);
@@ -126,7 +126,7 @@ fn guards_offence(own: usize, count: usize) -> Option<Skipped>
 
 /// A count, as a skip tells it.
 #[tactic(auto, unfolding(crate::specs::ImmediateAssume::told))]
-fn told(count: usize) -> u32
+pub(crate) fn told(count: usize) -> u32
     ensures { result ≡ told count }
 {
     if count < u32::MAX as usize {

@@ -2,14 +2,14 @@
 use Rattle.std.proofs.Common.{◌≡◌, ◌∙◌, sym, subst, refl, ℕ, ◌+◌, ◌<◌, ◌≤◌, List, [], ◌++◌, length, take, Option, Some, None, Result, Ok, Err, inl, inr, append-nil, arith}
 use Rattle.std.specs.Prelude.{◌≢◌, ◌⊎◌, IfSome}
 use Rattle.std.specs.Io.KnownBytes.{Appends, IsAtEnd}
-use Rattle.cj_ir.specs.declared.script.Input.{Input}
 use Rattle.cj_tokens.specs.declared.refusal.Refused.{Refused}
 use Rattle.cj_io.specs.Faults.{Rose}
 use Rattle.cj_io.specs.Reading.{GaveMore}
-use Rattle.cj_text.specs.Reads.{Reads}
+use Rattle.cj_calls.specs.declared.report.Report.{Report}
 use Rattle.cj_driver.specs.Outside.{Outside, outside, longest, AreWhole, WasRead, ToldWhole, ToldMore}
-use Rattle.cj_driver.specs.Answers.{Owes, HasAnswer, IsStop, TopStands, IsStatus, WasRefused, HasCauses, IsCalm, IsComplete, Answers}
-use Rattle.cj_driver.specs.Steps.{StopStands, Finishes, StopFinishes}
+use Rattle.cj_driver.specs.Texts.{TextOf, ReadsAs, WasText, Owes}
+use Rattle.cj_driver.specs.Answers.{HasAnswer, IsStop, TopStands, IsStatus, WasRefused, HasCauses, IsCalm, IsComplete, Answers}
+use Rattle.cj_driver.specs.Steps.{StopStands, Finishes, StopFinishes, Writes}
 use Rattle.cj_driver.specs.declared.command.Command.{Command}
 use Rattle.cj_driver.specs.declared.finish.Finish.{Finish}
 use Rattle.cj_driver.specs.declared.reading.Stop.{Stop}
@@ -29,10 +29,10 @@ same_bytes given left bytes known whole is =
     subst P is whole.all
 
 -- known bytes have one reading
-one_reading : (given left : Option (List ℕ)) (answer other : Result Input Refused) (known : List ℕ) → WasRead given left answer → given ≡ Some known → Reads known other → other ≡ answer
-one_reading given left answer other known read is reads =
+one_reading : (c : Command) (given left : Option (List ℕ)) (answer other : Result (TextOf c) Refused) (known : List ℕ) → WasText c given left answer → given ≡ Some known → ReadsAs c known other → other ≡ answer
+one_reading c given left answer other known read is reads =
     let same : known ≡ read.bytes = sym (same_bytes given left read.bytes known read.whole is) in
-    let P : List ℕ → Type 0 = λ bytes. Reads bytes other in
+    let P : List ℕ → Type 0 = λ bytes. ReadsAs c bytes other in
     read.only other (subst P same reads)
 
 -- what was read whole was not too long
@@ -52,7 +52,39 @@ longer given (Some rest) known more is =
     let P : Option (List ℕ) → Type 0 = λ g. GaveMore g (Some rest) longest in
     let gave : longest + length rest < length known = subst P is more in omega arith
 
--- ---- an input was read
+-- ---- a text was read
+
+written_some : (s : ℕ) → (s ≡ 0) ⊎ (s ≡ 5) → (s ≡ 0) ⊎ (s ≡ 5) ⊎ (s ≡ 6)
+written_some s (inl e) = inl e
+written_some s (inr e) = inr (inl e)
+
+not_six : {A : Type 0} (s : ℕ) → (s ≡ 0) ⊎ (s ≡ 5) → s ≡ 6 → A
+not_six s (inl e) six = let never : 0 ≡ 6 = sym e ∙ six in absurd (omega arith)
+not_six s (inr e) six = let never : 5 ≡ 6 = sym e ∙ six in absurd (omega arith)
+
+-- what is owed was written
+pub written : (c : Command) (text : TextOf c) (reports : List Report) (owed : List ℕ) (had has : Option (List ℕ)) (faults faults_now : ℕ) (f : Finish) → Owes c text reports owed → Writes reports owed had has faults faults_now f → Finishes c text had has faults faults_now f
+written c text reports owed had has faults faults_now f owes w =
+    let owed_now : Owes c text f.reports owed = subst (λ (rs : List Report). Owes c text rs owed) (sym w.reports) owes in
+    record {
+      some = written_some f.status w.some;
+      refused = w.refused;
+      done = λ s. (owed, owed_now, w.done s);
+      cut = λ s. let cut = w.cut s in (owed, cut.0, owed_now, cut.1);
+      fault = w.fault;
+      none = λ s. not_six f.status w.some s;
+    }
+
+-- want of memory: nothing was written
+pub wanted : (c : Command) (text : TextOf c) (had : Option (List ℕ)) (faults : ℕ) (f : Finish) → f.status ≡ 6 → f.refused ≡ None → f.reports ≡ [] → Finishes c text had had faults faults f
+wanted c text had faults f status refused reports = record {
+  some = inr (inr status);
+  refused = refused;
+  done = λ s. let never : 6 ≡ 0 = sym status ∙ s in absurd (omega arith);
+  cut = λ s. let never : 6 ≡ 5 = sym status ∙ s in absurd (omega arith);
+  fault = λ s. let never : 6 ≡ 5 = sym status ∙ s in absurd (omega arith);
+  none = λ s. (reports, took_nothing had);
+}
 
 zero_five_six : (s : ℕ) → (s ≡ 0) ⊎ (s ≡ 5) ⊎ (s ≡ 6) → s ≢ 0 → s ≢ 5 → s ≡ 6
 zero_five_six s (inl e) no_zero no_five = absurd (no_zero e)
@@ -76,33 +108,33 @@ done_or_six s (inl e) no_five = inl e
 done_or_six s (inr (inl e)) no_five = absurd (no_five e)
 done_or_six s (inr (inr e)) no_five = inr e
 
-read_stands : (c : Command) (i : Input) (o : Outside) (f : Finish) → WasRead o.given o.left (Ok i) → Finishes c i o.had o.has o.write_faults o.write_faults_now f → TopStands c o f
+read_stands : (c : Command) (i : TextOf c) (o : Outside) (f : Finish) → WasText c o.given o.left (Ok i) → Finishes c i o.had o.has o.write_faults o.write_faults_now f → TopStands c o f
 read_stands c i o f read fin = record {
-  done = λ s. let owed = fin.done s in (owed.0, record { input = i; read = read; owes = owed.1 }, owed.2);
-  cut = λ s. let owed = fin.cut s in (owed.0, owed.1, record { input = i; read = read; owes = owed.2 }, owed.3);
+  done = λ s. let owed = fin.done s in (owed.0, record { text = i; read = read; owes = owed.1 }, owed.2);
+  cut = λ s. let owed = fin.cut s in (owed.0, owed.1, record { text = i; read = read; owes = owed.2 }, owed.3);
   stop = λ a b. let none = fin.none (zero_five_six f.status fin.some a b) in record { nothing = none.1; reports = none.0 };
 }
 
-read_causes : (c : Command) (i : Input) (o : Outside) (f : Finish) → WasRead o.given o.left (Ok i) → Finishes c i o.had o.has o.write_faults o.write_faults_now f → HasCauses o f
+read_causes : (c : Command) (i : TextOf c) (o : Outside) (f : Finish) → WasText c o.given o.left (Ok i) → Finishes c i o.had o.has o.write_faults o.write_faults_now f → HasCauses c o f
 read_causes c i o f read fin = record {
   some = is_status f.status fin.some;
   refused = λ s. never f.status 3 fin.some s (omega arith) (omega arith) (omega arith);
   refused_alone = λ s. fin.refused;
-  refused_owed = λ bytes r told reads not_four. let same : Err r ≡ Ok i = one_reading o.given o.left (Ok i) (Err r) bytes read told.given reads in cc;
+  refused_owed = λ bytes r told reads not_four. let same : Err r ≡ Ok i = one_reading c o.given o.left (Ok i) (Err r) bytes read told.given reads in cc;
   read = λ s. never f.status 4 fin.some s (omega arith) (omega arith) (omega arith);
   write = fin.fault;
   long = λ s. never f.status 7 fin.some s (omega arith) (omega arith) (omega arith);
   long_owed = λ told not_four. absurd (not_more o.given o.left read.bytes told.bytes told.rest read.whole told.given told.more);
 }
 
-pub read_answers : (c : Command) (i : Input) (o : Outside) (f : Finish) → WasRead o.given o.left (Ok i) → Finishes c i o.had o.has o.write_faults o.write_faults_now f → Answers c o f
+pub read_answers : (c : Command) (i : TextOf c) (o : Outside) (f : Finish) → WasText c o.given o.left (Ok i) → Finishes c i o.had o.has o.write_faults o.write_faults_now f → Answers c o f
 read_answers c i o f read fin = record {
   headline = read_stands c i o f read fin;
   causes = read_causes c i o f read fin;
   complete = λ calm. done_or_six f.status fin.some (λ s. calm.no_write_fault (fin.fault s));
 }
 
--- ---- no input was read
+-- ---- no text was read
 
 stop_stands : (c : Command) (o : Outside) (f : Finish) → Appends o.had o.has [] → f.reports ≡ [] → f.status ≢ 0 → f.status ≢ 5 → TopStands c o f
 stop_stands c o f nothing reports no_zero no_five = record {
@@ -115,7 +147,7 @@ stop_stands c o f nothing reports no_zero no_five = record {
 apart : {A : Type 0} (s m n : ℕ) → s ≡ m → s ≡ n → m ≢ n → A
 apart s m n a b differ = absurd (differ (sym a ∙ b))
 
-stop_answers : (c : Command) (o : Outside) (s : Stop) (f : Finish) → Appends o.had o.has [] → StopStands o.given o.left o.read_faults o.read_faults_now s → StopFinishes s f → Answers c o f
+stop_answers : (c : Command) (o : Outside) (s : Stop) (f : Finish) → Appends o.had o.has [] → StopStands c o.given o.left o.read_faults o.read_faults_now s → StopFinishes s f → Answers c o f
 stop_answers c o (stop.Refused r) f nothing stands fin = record {
   headline = stop_stands c o f nothing fin.reports (λ e. apart f.status 3 0 fin.status e (omega arith)) (λ e. apart f.status 3 5 fin.status e (omega arith));
   causes = record {
@@ -128,7 +160,7 @@ stop_answers c o (stop.Refused r) f nothing stands fin = record {
     long = λ e. apart f.status 3 7 fin.status e (omega arith);
     long_owed = λ told not_four. absurd (not_more o.given o.left stands.bytes told.bytes told.rest stands.whole told.given told.more);
   };
-  complete = λ calm. let same : Ok calm.input ≡ Err r = one_reading o.given o.left (Err r) (Ok calm.input) calm.bytes stands calm.given calm.reads in cc;
+  complete = λ calm. let same : Ok calm.text ≡ Err r = one_reading c o.given o.left (Err r) (Ok calm.text) calm.bytes stands calm.given calm.reads in cc;
 }
 stop_answers c o stop.ReadFault f nothing stands fin = record {
   headline = stop_stands c o f nothing fin.reports (λ e. apart f.status 4 0 fin.status e (omega arith)) (λ e. apart f.status 4 5 fin.status e (omega arith));
@@ -177,6 +209,6 @@ stop_answers c o stop.NoMemory f nothing stands fin = record {
 }
 
 -- a call that stopped before it touched the sink
-pub stopped : (c : Command) (given left had : Option (List ℕ)) (faults faults_now writes : ℕ) (s : Stop) (f : Finish) → StopStands given left faults faults_now s → StopFinishes s f → Answers c (outside given left had had faults faults_now writes writes) f
+pub stopped : (c : Command) (given left had : Option (List ℕ)) (faults faults_now writes : ℕ) (s : Stop) (f : Finish) → StopStands c given left faults faults_now s → StopFinishes s f → Answers c (outside given left had had faults faults_now writes writes) f
 stopped c given left had faults faults_now writes s f stands fin =
     stop_answers c (outside given left had had faults faults_now writes writes) s f (took_nothing had) stands fin

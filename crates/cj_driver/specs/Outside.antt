@@ -1,11 +1,9 @@
 -- What the source and the sink of a top call tell, before and after it.
 use Rattle.std.specs.Prelude.{◌≡◌, ℕ, ◌+◌, ◌<◌, ◌≤◌, List, [], length, Option, Some, Result, IfSome}
 use Rattle.std.specs.Io.KnownBytes.{Appends, IsAtEnd}
-use Rattle.cj_ir.specs.declared.script.Input.{Input}
 use Rattle.cj_tokens.specs.declared.refusal.Refused.{Refused}
 use Rattle.cj_io.specs.Faults.{Rose}
 use Rattle.cj_io.specs.Reading.{GaveMore}
-use Rattle.cj_text.specs.Reads.{Reads}
 
 pub record Outside : Type 0 where
   -- the bytes that are left in the source, where it tells them
@@ -46,12 +44,13 @@ pub record AreWhole (given left : Option (List ℕ)) (bytes : List ℕ) : Type 0
   pub «end» : IsAtEnd left
   pub short : length bytes ≤ longest
 
--- the bytes of a source, read to its end, are this input, or are refused with this first offence, and nothing else
-pub record WasRead (given left : Option (List ℕ)) (answer : Result Input Refused) : Type 0 where
+-- the bytes of a source, read to its end, are this text, or are refused with this first offence, and nothing else
+pub record WasRead
+    {A : Type 0} (Reads : List ℕ → Result A Refused → Type 0) (given left : Option (List ℕ)) (answer : Result A Refused) : Type 0 where
   pub bytes : List ℕ
   pub whole : AreWhole given left bytes
   pub reads : Reads bytes answer
-  pub only : (other : Result Input Refused) → Reads bytes other → other ≡ answer
+  pub only : (other : Result A Refused) → Reads bytes other → other ≡ answer
 
 -- the source tells that these bytes, which are not too many, were all taken
 pub record ToldWhole (o : Outside) (bytes : List ℕ) : Type 0 where

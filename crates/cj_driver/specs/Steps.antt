@@ -2,29 +2,29 @@
 use Rattle.std.specs.Prelude.{◌≡◌, ℕ, ◌⊎◌, List, [], take, Option, None, Some, Err, ⊤}
 use Rattle.cj_tokens.specs.declared.refusal.Refused.{Refused}
 use Rattle.std.specs.Io.KnownBytes.{Appends}
-use Rattle.cj_ir.specs.declared.script.Input.{Input}
 use Rattle.cj_io.specs.Faults.{Rose}
 use Rattle.cj_io.specs.Reading.{GaveMore}
-use Rattle.cj_driver.specs.Outside.{WasRead, longest}
-use Rattle.cj_driver.specs.Answers.{Owes}
+use Rattle.cj_calls.specs.declared.report.Report.{Report}
+use Rattle.cj_driver.specs.Outside.{longest}
+use Rattle.cj_driver.specs.Texts.{TextOf, WasText, Owes}
 use Rattle.cj_driver.specs.declared.command.Command.{Command}
 use Rattle.cj_driver.specs.declared.finish.Finish.{Finish}
 use Rattle.cj_driver.specs.declared.reading.Stop.{Stop}
 use Rattle.cj_driver.specs.declared.reading.Stop.TheVariants as stop
 
--- why no input was read
-abbrev pub StopStands : (given left : Option (List ℕ)) (faults faults_now : ℕ) → Stop → Type 0
-StopStands given left faults faults_now (stop.Refused r) = WasRead given left (Err r)
-StopStands given left faults faults_now stop.ReadFault = Rose faults faults_now
-StopStands given left faults faults_now stop.TooLong = GaveMore given left longest
-StopStands given left faults faults_now stop.NoMemory = ⊤
+-- why no text was read
+abbrev pub StopStands : (c : Command) (given left : Option (List ℕ)) (faults faults_now : ℕ) → Stop → Type 0
+StopStands c given left faults faults_now (stop.Refused r) = WasText c given left (Err r)
+StopStands c given left faults faults_now stop.ReadFault = Rose faults faults_now
+StopStands c given left faults faults_now stop.TooLong = GaveMore given left longest
+StopStands c given left faults faults_now stop.NoMemory = ⊤
 
--- what came of an input
-pub record Finishes (c : Command) (input : Input) (had has : Option (List ℕ)) (faults faults_now : ℕ) (f : Finish) : Type 0 where
+-- what came of a text
+pub record Finishes (c : Command) (text : TextOf c) (had has : Option (List ℕ)) (faults faults_now : ℕ) (f : Finish) : Type 0 where
   pub some : (f.status ≡ 0) ⊎ (f.status ≡ 5) ⊎ (f.status ≡ 6)
   pub refused : f.refused ≡ None
-  pub done : f.status ≡ 0 → (owed : List ℕ) × Owes c input f.reports owed × Appends had has owed
-  pub cut : f.status ≡ 5 → (owed : List ℕ) × (part : ℕ) × Owes c input f.reports owed × Appends had has (take part owed)
+  pub done : f.status ≡ 0 → (owed : List ℕ) × Owes c text f.reports owed × Appends had has owed
+  pub cut : f.status ≡ 5 → (owed : List ℕ) × (part : ℕ) × Owes c text f.reports owed × Appends had has (take part owed)
   pub fault : f.status ≡ 5 → Rose faults faults_now
   pub none : f.status ≡ 6 → (f.reports ≡ []) × Appends had has []
 
@@ -38,8 +38,17 @@ abbrev pub stop_refused : Stop → Option Refused
 stop_refused (stop.Refused r) = Some r
 stop_refused s = None
 
--- how a call ends where no input was read
+-- how a call ends where no text was read
 pub record StopFinishes (s : Stop) (f : Finish) : Type 0 where
   pub status : f.status ≡ stop_status s
   pub refused : f.refused ≡ stop_refused s
   pub reports : f.reports ≡ []
+
+-- Reports and the bytes that are owed for them: the bytes went out, or a prefix of them.
+pub record Writes (made : List Report) (owed : List ℕ) (had has : Option (List ℕ)) (faults faults_now : ℕ) (f : Finish) : Type 0 where
+  pub some : (f.status ≡ 0) ⊎ (f.status ≡ 5)
+  pub refused : f.refused ≡ None
+  pub reports : f.reports ≡ made
+  pub done : f.status ≡ 0 → Appends had has owed
+  pub cut : f.status ≡ 5 → (part : ℕ) × Appends had has (take part owed)
+  pub fault : f.status ≡ 5 → Rose faults faults_now

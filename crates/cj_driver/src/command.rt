@@ -2,14 +2,24 @@
 
 ghost use Rattle.std.specs.Prelude.{◌≡◌, map};
 ghost use Rattle.std.specs.String.{string_bytes};
-ghost use Rattle.cj_driver.specs.Commands.{command_of, command_named};
+ghost use Rattle.cj_driver.specs.Commands.{command_of, command_named, command_with};
 
 /// What the program is asked to do.
 #[derive(Clone, Copy, Debug, PartialEq, Eq)]
 pub enum Command {
-    /// Runs the calls of an input, one after the other, and writes the text of their reports.
+    /// Reads an input: a program with a script of calls.
+    OnInput(Job),
+    /// Reads a replay: a program with events. Plays the events, and writes the text of the reports, with a line of counts
+    /// for each where `stats` holds.
+    OnReplay { stats: bool },
+}
+
+/// What is done with an input.
+#[derive(Clone, Copy, Debug, PartialEq, Eq)]
+pub enum Job {
+    /// Runs the calls, one after the other, and writes the text of their reports.
     Alone,
-    /// Writes the canonical text of an input.
+    /// Writes the canonical text.
     Format,
 }
 
@@ -21,6 +31,7 @@ impl Command {
     {
         match words {
             [word] => command_named(word.as_bytes()),
+            [word, next] => command_with(word.as_bytes(), next.as_bytes()),
             _ => None,
         }
     }
@@ -31,10 +42,24 @@ fn command_named(word: &[u8]) -> Option<Command>
     ensures { result ≡ command_named word.now }
 {
     if word == "alone".as_bytes() {
-        Some(Command::Alone)
+        Some(Command::OnInput(Job::Alone))
     } else if word == "format".as_bytes() {
-        Some(Command::Format)
+        Some(Command::OnInput(Job::Format))
+    } else if word == "replay".as_bytes() {
+        Some(Command::OnReplay { stats: false })
     } else {
         None
     }
+}
+
+#[tactic(auto, unfolding(crate::specs::Commands::command_with))]
+fn command_with(word: &[u8], next: &[u8]) -> Option<Command>
+    ensures { result ≡ command_with word.now next.now }
+{
+    if word == "replay".as_bytes() {
+        if next == "stats".as_bytes() {
+            return Some(Command::OnReplay { stats: true });
+        }
+    }
+    None
 }

@@ -10,12 +10,14 @@ pub mod lines;
 pub mod reading;
 pub mod top;
 
-pub use command::Command;
+pub use command::{Command, Job};
 pub use finish::Finish;
 pub use lines::fault_line;
 pub use top::top_alone;
 
 #[cfg(test)]
 mod limits;
+#[cfg(test)]
+mod replays;
 #[cfg(test)]
 mod tests;

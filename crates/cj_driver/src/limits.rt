@@ -50,13 +50,13 @@ fn functions(alloc: Global, count: u32) -> Result<String, AllocError> {
 }
 
 fn accepted(rt: &impl Abort, alloc: Global, input: &str) -> Result<(), Fail> {
-    check(rt, alloc, "alone", input.as_bytes(), 0, "")
+    check(rt, alloc, &["alone"], input.as_bytes(), 0, "")
 }
 
 fn refused(rt: &impl Abort, alloc: Global, input: &str, line: &str) -> Result<(), Fail> {
     let text = format!(in alloc; "line {line}\n")?;
-    check(rt, alloc, "alone", input.as_bytes(), 3, &text)?;
-    check(rt, alloc, "format", input.as_bytes(), 3, &text)
+    check(rt, alloc, &["alone"], input.as_bytes(), 3, &text)?;
+    check(rt, alloc, &["format"], input.as_bytes(), 3, &text)
 }
 
 #[test]
@@ -226,7 +226,7 @@ fn numbers_of_a_script(rt: HostRuntime) -> Result<(), Fail> {
         "call main memory 65536 limit 1",
     ] {
         let input = format!(in alloc; "{MAIN}{script}")?;
-        check(&rt, alloc, "alone", input.as_bytes(), 0, run)?;
+        check(&rt, alloc, &["alone"], input.as_bytes(), 0, run)?;
     }
     for (script, line) in [
         ("warm main\n0", "3: Range"),
@@ -303,5 +303,5 @@ fn the_many(rt: HostRuntime) -> Result<(), Fail> {
         text.push_str(&format!(in alloc; "call {k}\nreturn 0\n")?)?;
     }
     let input = format!(in alloc; "{MAIN}{calls}")?;
-    check(&rt, alloc, "alone", input.as_bytes(), 0, &text)
+    check(&rt, alloc, &["alone"], input.as_bytes(), 0, &text)
 }

@@ -1,20 +1,26 @@
-//! The input that a source gives.
+//! The text that a source gives.
 
-ghost use Rattle.std.specs.Prelude.{◌≡◌, None, Some, Ok, IfOk, IfErr, [], ◌≤◌};
+ghost use Rattle.std.specs.Prelude.{◌≡◌, Bool, None, Some, Ok, IfOk, IfErr, [], ◌≤◌};
 ghost use Rattle.cj_script.specs.Fitting.{FitsScript};
-ghost use Rattle.cj_driver.specs.Outside.{WasRead};
+ghost use Rattle.cj_events.specs.Fitting.{FitsEvents};
+ghost use Rattle.cj_driver.specs.Outside.{AreWhole};
+ghost use Rattle.cj_driver.specs.Texts.{WasText};
 ghost use Rattle.cj_driver.specs.Steps.{StopStands};
+ghost use Rattle.cj_driver.specs.declared.command.Command.{Command};
+ghost use Rattle.cj_driver.specs.declared.command.Command.TheVariants.{OnInput, OnReplay};
+ghost use Rattle.cj_driver.specs.declared.command.Job.{Job};
 
 use cj_io::{ReadError, Source, read_all};
-use cj_ir::Input;
+use cj_events::{Events, parse_replay};
+use cj_ir::{Checked, Input};
 use cj_text::parse;
 use cj_tokens::{ParseError, Refused};
 use std::alloc::Global;
 
-/// The longest input, in bytes.
+/// The longest text, in bytes.
 const LONGEST: u32 = 4_194_304;
 
-/// Why no input was read.
+/// Why no text was read.
 #[derive(Clone, Copy, Debug, PartialEq, Eq)]
 pub enum Stop {
     Refused(Refused),
@@ -23,20 +29,48 @@ pub enum Stop {
     NoMemory,
 }
 
-/// The input that the source's bytes are, up to its end.
-pub fn read_input<S: Source>(alloc: Global, source: &mut S) -> Result<Input, Stop>
-    ensures read { IfOk result (λ input. WasRead (S.left source.old) (S.left source.new) (Ok input)) }
-    ensures fits { IfOk result (λ input. FitsScript input.checked input.script) }
-    ensures stop { IfErr result (StopStands (S.left source.old) (S.left source.new) (S.faults source.old) (S.faults source.new)) }
+/// All bytes of the source, up to its end.
+fn read_bytes<S: Source>(alloc: Global, source: &mut S) -> Result<Vec<u8>, Stop>
+    ensures read { IfOk result (λ bytes. AreWhole (S.left source.old) (S.left source.new) bytes.items) }
+    ensures stop { IfErr result (λ stop. (c : Command) → StopStands c (S.left source.old) (S.left source.new) (S.faults source.old) (S.faults source.new) stop) }
 {
-    let bytes = match read_all(alloc, source, LONGEST) {
+    match read_all(alloc, source, LONGEST) {
+        Ok(bytes) => Ok(bytes),
+        Err(ReadError::ReadFault) => Err(Stop::ReadFault),
+        Err(ReadError::TooLong { .. }) => Err(Stop::TooLong),
+        Err(ReadError::NoMemory) => Err(Stop::NoMemory),
+    }
+}
+
+/// The input that the source's bytes are.
+pub fn read_input<S: Source>(alloc: Global, source: &mut S) -> Result<Input, Stop>
+    ensures read { IfOk result (λ input. (job : Job) → WasText (OnInput job) (S.left source.old) (S.left source.new) (Ok input)) }
+    ensures fits { IfOk result (λ input. FitsScript input.checked input.script) }
+    ensures stop { IfErr result (λ stop. (job : Job) → StopStands (OnInput job) (S.left source.old) (S.left source.new) (S.faults source.old) (S.faults source.new) stop) }
+{
+    let bytes = match read_bytes(alloc, source) {
         Ok(bytes) => bytes,
-        Err(ReadError::ReadFault) => return Err(Stop::ReadFault),
-        Err(ReadError::TooLong { .. }) => return Err(Stop::TooLong),
-        Err(ReadError::NoMemory) => return Err(Stop::NoMemory),
+        Err(stop) => return Err(stop),
     };
     match parse(alloc, &bytes) {
         Ok(input) => Ok(input),
+        Err(ParseError::Refused(refused)) => Err(Stop::Refused(refused)),
+        Err(ParseError::NoMemory) => Err(Stop::NoMemory),
+    }
+}
+
+/// The replay that the source's bytes are.
+pub fn read_replay<S: Source>(alloc: Global, source: &mut S) -> Result<(Checked, Events), Stop>
+    ensures read { IfOk result (λ replay. (stats : Bool) → WasText (OnReplay stats) (S.left source.old) (S.left source.new) (Ok replay)) }
+    ensures fits { IfOk result (λ replay. FitsEvents replay.0 replay.1) }
+    ensures stop { IfErr result (λ stop. (stats : Bool) → StopStands (OnReplay stats) (S.left source.old) (S.left source.new) (S.faults source.old) (S.faults source.new) stop) }
+{
+    let bytes = match read_bytes(alloc, source) {
+        Ok(bytes) => bytes,
+        Err(stop) => return Err(stop),
+    };
+    match parse_replay(alloc, &bytes) {
+        Ok(replay) => Ok(replay),
         Err(ParseError::Refused(refused)) => Err(Stop::Refused(refused)),
         Err(ParseError::NoMemory) => Err(Stop::NoMemory),
     }

@@ -75,12 +75,12 @@ fn command_line(alloc: Global, words: &[&str]) -> Result<Vec<String>, AllocError
 pub(crate) fn check(
     rt: &impl Abort,
     alloc: Global,
-    word: &str,
+    words: &[&str],
     input: &[u8],
     status: u8,
     text: &str,
 ) -> Result<(), Fail> {
-    let words = command_line(alloc, &[word])?;
+    let words = command_line(alloc, words)?;
     let mut source = MemSource::new(input.to_vec(alloc)?, 1000, Vec::new(alloc));
     let mut sink = MemSink::new(alloc, 1000, Vec::new(alloc));
     let finish = top_alone(alloc, &words, &mut source, &mut sink);
@@ -133,7 +133,7 @@ fn alone_writes_prints_and_ends(rt: HostRuntime) -> Result<(), Fail> {
         ),
     ] {
         let input = format!(in alloc; "{program} calls {calls}")?;
-        check(&rt, alloc, "alone", input.as_bytes(), 0, text)?;
+        check(&rt, alloc, &["alone"], input.as_bytes(), 0, text)?;
     }
     Ok(())
 }
@@ -155,7 +155,7 @@ fn the_bank_script_pays_and_is_paid(rt: HostRuntime) -> Result<(), Fail> {
         };
         text.push_str(&block)?;
     }
-    check(&rt, alloc, "alone", input.as_bytes(), 0, &text)
+    check(&rt, alloc, &["alone"], input.as_bytes(), 0, &text)
 }
 
 #[test]
@@ -164,8 +164,8 @@ fn format_writes_the_canonical_text(rt: HostRuntime) -> Result<(), Fail> {
     let text = format!(in alloc; "{INCREMENT}calls\ncall main 4 memory 64 limit 100\n")?;
     let input =
         "fun main ( n ;r){# a comment\n1:op r=n+1->2 2:print r->3\n3 : return r }calls call main 04 limit 100";
-    check(&rt, alloc, "format", input.as_bytes(), 0, &text)?;
-    check(&rt, alloc, "format", text.as_bytes(), 0, &text)
+    check(&rt, alloc, &["format"], input.as_bytes(), 0, &text)?;
+    check(&rt, alloc, &["format"], text.as_bytes(), 0, &text)
 }
 
 #[test]
@@ -210,8 +210,8 @@ fn refusals_tell_line_and_kind(rt: HostRuntime) -> Result<(), Fail> {
             "line 2: NoFunction\n",
         ),
     ] {
-        check(&rt, alloc, "alone", input.as_bytes(), 3, line)?;
-        check(&rt, alloc, "format", input.as_bytes(), 3, line)?;
+        check(&rt, alloc, &["alone"], input.as_bytes(), 3, line)?;
+        check(&rt, alloc, &["format"], input.as_bytes(), 3, line)?;
     }
     let mut many = String::new(alloc);
     for k in 0..65 {
@@ -221,7 +221,7 @@ fn refusals_tell_line_and_kind(rt: HostRuntime) -> Result<(), Fail> {
     check(
         &rt,
         alloc,
-        "alone",
+        &["alone"],
         many.as_bytes(),
         3,
         "line 65: TooMany\n",
@@ -233,9 +233,10 @@ fn faults_stop_a_call(rt: HostRuntime) -> Result<(), Fail> {
     let alloc = rt.alloc();
     let usage =
         "usage: corejit alone [stats] | replay [stats] | format | bench N [CALLERS WORKERS] | run CALLERS WORKERS\n";
-    check(&rt, alloc, "loud", b"", 2, usage)?;
+    check(&rt, alloc, &["loud"], b"", 2, usage)?;
+    check(&rt, alloc, &["replay", "loud"], b"", 2, usage)?;
     let blanks = vec![in alloc; b' '; 4_194_305]?;
-    check(&rt, alloc, "alone", &blanks, 7, "too long\n")?;
+    check(&rt, alloc, &["alone"], &blanks, 7, "too long\n")?;
     let input = format!(in alloc; "{INCREMENT}calls call main 4 limit 100")?;
     let words = command_line(alloc, &["alone"])?;
     // the second read fails, and then the second write

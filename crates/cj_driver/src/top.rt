@@ -3,33 +3,37 @@
 ghost use Rattle.std.specs.Prelude.{◌≡◌, map};
 ghost use Rattle.std.specs.String.{string_bytes};
 ghost use Rattle.cj_script.specs.Fitting.{FitsScript};
+ghost use Rattle.cj_events.specs.Fitting.{FitsEvents};
 ghost use Rattle.cj_driver.specs.Commands.{command_of};
 ghost use Rattle.cj_driver.specs.Outside.{outside};
 ghost use Rattle.cj_driver.specs.Answers.{Answers, ByWords};
-ghost use Rattle.cj_driver.specs.Steps.{Finishes, StopFinishes};
+ghost use Rattle.cj_driver.specs.Steps.{Finishes, StopFinishes, Writes};
+ghost use Rattle.cj_driver.specs.declared.command.Command.TheVariants.{OnInput, OnReplay};
 
-use crate::command::Command;
+use crate::command::{Command, Job};
 use crate::finish::Finish;
-use crate::jobs::perform;
-use crate::reading::{Stop, read_input};
+use crate::jobs::{Answer, perform, perform_play};
+use crate::reading::{Stop, read_input, read_replay};
+use cj_events::Events;
 use cj_io::{Sink, Source, write_whole};
-use cj_ir::{Input, NoMemory};
+use cj_ir::{Checked, Input, NoMemory};
 use std::alloc::Global;
 
-/// Reads an input from the source, does what the words ask, and writes the text to the sink.
+/// Reads a text from the source, does what the words ask, and writes the answer to the sink.
 ///
-/// The words are one of the forms `alone` and `format`. Nothing is written before all runs have ended, so every
+/// The words are one of the forms `alone`, `format`, `replay` and `replay stats`. Nothing is written before all runs have ended, so every
 /// status but 0 and 5 has written nothing.
 ///
 /// With status 0 the source was read to its end, and the sink took the whole text; with 5, write fault, a prefix
-/// of it. For `alone` there is one report for each call of the script, in order: its prints are those of the base
+/// of it. For `alone` there is one report for each call of the script, in order; for `replay` one for each run that begins,
+/// and they are those of the play of the events, each the versioned run's over the versions that were compiled. Its prints are those of the base
 /// run after the report's count of base turns, its end is that run's, and the turn limit is answered exactly
 /// where as many turns were made as the call allows and that run goes on.
 ///
-/// The other statuses: 2 exactly where the words are no form; 3 exactly where the bytes are no input, with the
+/// The other statuses: 2 exactly where the words are no form; 3 exactly where the bytes are no text of the command, with the
 /// first offence in `refused`; 4 only where the source's count of faults rose; 5 only where the sink's did; 7
 /// exactly where the source gave more than 4,194,304 bytes; 6 where memory was wanted, at any time. Where the
-/// bytes are an input and no fault is counted, the status is 0 or 6.
+/// bytes are such a text and no fault is counted, the status is 0 or 6.
 pub fn top_alone<S: Source, K: Sink>(
     alloc: Global,
     words: &[String],
@@ -53,13 +57,43 @@ fn answer<S: Source, K: Sink>(
 ) -> Finish
     ensures { Answers command (outside (S.left source.old) (S.left source.new) (K.written sink.old) (K.written sink.new) (S.faults source.old) (S.faults source.new) (K.faults sink.old) (K.faults sink.new)) result }
 {
+    match command {
+        Command::OnInput(job) => answer_input(alloc, job, source, sink),
+        Command::OnReplay { stats } => answer_replay(alloc, stats, source, sink),
+    }
+}
+
+/// What is answered for an input.
+fn answer_input<S: Source, K: Sink>(
+    alloc: Global,
+    job: Job,
+    source: &mut S,
+    sink: &mut K,
+) -> Finish
+    ensures { Answers (OnInput job) (outside (S.left source.old) (S.left source.new) (K.written sink.old) (K.written sink.new) (S.faults source.old) (S.faults source.new) (K.faults sink.old) (K.faults sink.new)) result }
+{
     match read_input(alloc, source) {
-        Ok(input) => finish_input(alloc, command, &input, sink),
+        Ok(input) => finish_input(alloc, job, &input, sink),
         Err(stop) => finish_stop(alloc, stop),
     }
 }
 
-/// How a call ends where no input was read.
+/// What is answered for a replay.
+fn answer_replay<S: Source, K: Sink>(
+    alloc: Global,
+    stats: bool,
+    source: &mut S,
+    sink: &mut K,
+) -> Finish
+    ensures { Answers (OnReplay stats) (outside (S.left source.old) (S.left source.new) (K.written sink.old) (K.written sink.new) (S.faults source.old) (S.faults source.new) (K.faults sink.old) (K.faults sink.new)) result }
+{
+    match read_replay(alloc, source) {
+        Ok((checked, events)) => finish_replay(alloc, stats, &checked, &events, sink),
+        Err(stop) => finish_stop(alloc, stop),
+    }
+}
+
+/// How a call ends where no text was read.
 fn finish_stop(alloc: Global, stop: Stop) -> Finish
     ensures { StopFinishes stop result }
 {
@@ -71,15 +105,38 @@ fn finish_stop(alloc: Global, stop: Stop) -> Finish
     }
 }
 
-/// Does what the command asks of the input, and writes the text.
-fn finish_input<K: Sink>(alloc: Global, command: Command, input: &Input, sink: &mut K) -> Finish
+/// Does the job on the input, and writes the text.
+fn finish_input<K: Sink>(alloc: Global, job: Job, input: &Input, sink: &mut K) -> Finish
     requires { FitsScript input.now.checked input.now.script }
-    ensures { Finishes command input.now (K.written sink.old) (K.written sink.new) (K.faults sink.old) (K.faults sink.new) result }
+    ensures { Finishes (OnInput job) input.now (K.written sink.old) (K.written sink.new) (K.faults sink.old) (K.faults sink.new) result }
 {
-    let answer = match perform(alloc, command, input) {
-        Ok(answer) => answer,
-        Err(NoMemory) => return Finish::stopped(alloc, 6, None),
-    };
+    match perform(alloc, job, input) {
+        Ok(answer) => write_answer(answer, sink),
+        Err(NoMemory) => Finish::stopped(alloc, 6, None),
+    }
+}
+
+/// Plays the events, and writes the text.
+fn finish_replay<K: Sink>(
+    alloc: Global,
+    stats: bool,
+    checked: &Checked,
+    events: &Events,
+    sink: &mut K,
+) -> Finish
+    requires { FitsEvents checked.now events.now }
+    ensures { Finishes (OnReplay stats) (checked.now, events.now) (K.written sink.old) (K.written sink.new) (K.faults sink.old) (K.faults sink.new) result }
+{
+    match perform_play(alloc, stats, checked, events) {
+        Ok(answer) => write_answer(answer, sink),
+        Err(NoMemory) => Finish::stopped(alloc, 6, None),
+    }
+}
+
+/// Writes the text, and keeps the reports.
+fn write_answer<K: Sink>(answer: Answer, sink: &mut K) -> Finish
+    ensures { Writes answer.reports answer.text.items (K.written sink.old) (K.written sink.new) (K.faults sink.old) (K.faults sink.new) result }
+{
     let status = match write_whole(sink, &answer.text) {
         Ok(()) => 0,
         Err(_fault) => 5,

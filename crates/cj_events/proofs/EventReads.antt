@@ -47,7 +47,10 @@ unfolding front
 no_pass t ts h =
     let no_anchors : is_terminal terminal.Anchors t ≡ false = other_terminal terminal.CloseBrace terminal.Anchors t h refl in
     let no_assume : is_terminal terminal.Assume t ≡ false = other_terminal terminal.CloseBrace terminal.Assume t h refl in
-    rw (no_anchors, no_assume) refl
+    let no_delay : is_terminal terminal.Delay t ≡ false = other_terminal terminal.CloseBrace terminal.Delay t h refl in
+    let no_const : is_terminal terminal.Const t ≡ false = other_terminal terminal.CloseBrace terminal.Const t h refl in
+    let no_inline : is_terminal terminal.Inline t ≡ false = other_terminal terminal.CloseBrace terminal.Inline t h refl in
+    rw (no_anchors, no_assume, no_delay, no_const, no_inline) refl
 
 compile_reads : (functions : List Function) (earlier : List Event) (t : Tree compile_event) (ts : List Lexeme) → compile_at functions (tally_of earlier) (leaves compile_event t ++ ts) ≡ reads (compile_offences functions earlier t) (compile_of functions t) ts
 unfolding compile_event compile_at compiled_at compile_offences compile_of tally_of front behind

@@ -24,8 +24,8 @@ use Rattle.cj_script.proofs.Offences.{none_of, none_highest, in_range, limit_fin
 use Rattle.cj_script.proofs.ScriptFits.{begun_fits}
 use Rattle.cj_events.specs.declared.events.Event.{Event}
 use Rattle.cj_events.specs.Fitting.{FitsLabel, FitsLabels, FitsGuard, FitsGuards, FitsPass, FitsEvent, EachFits, FitsEvents}
-use Rattle.cj_events.specs.Meaning.{label_of, label_offences, listed_offences, labels_offences, labels_of, ninth_offences, guard_offences, guard_of, guards_offences, guards_of, pass_word_offences, anchors_offences, anchors_of, assume_offences, assume_of, pass_offences, pass_of, passes_offences, passes_of, event_word_offences, run_offences, count_offences, begin_offences, begin_of, step_offences, step_of, compile_offences, compile_of, event_offences, event_of, events_offences, events_of, history_offences, history_of}
-use Rattle.cj_events.specs.Rules.{more_labels, labels, equation, guard, more_guards, guards, anchors_pass, assume_pass, any_pass, passes, begin_event, step_event, compile_event, event, events, history}
+use Rattle.cj_events.specs.Meaning.{label_of, label_offences, listed_offences, labels_offences, labels_of, ninth_offences, guard_offences, guard_of, guards_offences, guards_of, pass_word_offences, anchors_offences, anchors_of, assume_offences, assume_of, delay_offences, delay_of, const_offences, const_of, inline_offences, inline_of, pass_offences, pass_of, passes_offences, passes_of, event_word_offences, run_offences, count_offences, begin_offences, begin_of, step_offences, step_of, compile_offences, compile_of, event_offences, event_of, events_offences, events_of, history_offences, history_of}
+use Rattle.cj_events.specs.Rules.{more_labels, labels, equation, guard, more_guards, guards, anchors_pass, assume_pass, delay_pass, const_pass, inline_pass, any_pass, passes, begin_event, step_event, compile_event, event, events, history}
 use Rattle.cj_events.specs.Tallies.{runs, limits, counts, compiles, tally_of, counted, IsWithin}
 use Rattle.cj_events.proofs.Tallied.{tally_more}
 
@@ -115,10 +115,30 @@ assume_fits earlier (word, (anchor, tests)) h =
     let inner : (label_offences anchor.token ≡ []) × (guards_offences tests ≡ []) = none_of (label_offences anchor.token) (guards_offences tests) both.1 in
     (room 256 earlier word.token both.0, (label_fits anchor.token inner.0, guards_fit tests inner.1))
 
+delay_fits : (earlier : ℕ) (t : Tree delay_pass) → delay_offences earlier t ≡ [] → (earlier < 256) × FitsPass (delay_of t)
+unfolding delay_pass delay_offences delay_of
+delay_fits earlier (word, (path, tests)) h =
+    let both : (pass_word_offences earlier word.token ≡ []) × (labels_offences path ++ guards_offences tests ≡ []) = none_of (pass_word_offences earlier word.token) (labels_offences path ++ guards_offences tests) h in
+    let inner : (labels_offences path ≡ []) × (guards_offences tests ≡ []) = none_of (labels_offences path) (guards_offences tests) both.1 in
+    (room 256 earlier word.token both.0, (labels_fit path inner.0, guards_fit tests inner.1))
+
+const_fits : (earlier : ℕ) (t : Tree const_pass) → const_offences earlier t ≡ [] → (earlier < 256) × FitsPass (const_of t)
+unfolding const_pass const_offences const_of
+const_fits earlier word h = (room 256 earlier word.token h, tt)
+
+inline_fits : (earlier : ℕ) (t : Tree inline_pass) → inline_offences earlier t ≡ [] → (earlier < 256) × FitsPass (inline_of t)
+unfolding inline_pass inline_offences inline_of
+inline_fits earlier (word, call) h =
+    let both : (pass_word_offences earlier word.token ≡ []) × (label_offences call.token ≡ []) = none_of (pass_word_offences earlier word.token) (label_offences call.token) h in
+    (room 256 earlier word.token both.0, label_fits call.token both.1)
+
 pass_fits : (earlier : ℕ) (t : Tree any_pass) → pass_offences earlier t ≡ [] → (earlier < 256) × FitsPass (pass_of t)
 unfolding any_pass pass_offences pass_of
 pass_fits earlier (inl t) h = anchors_fit earlier t h
-pass_fits earlier (inr t) h = assume_fits earlier t h
+pass_fits earlier (inr (inl t)) h = assume_fits earlier t h
+pass_fits earlier (inr (inr (inl t))) h = delay_fits earlier t h
+pass_fits earlier (inr (inr (inr (inl t)))) h = const_fits earlier t h
+pass_fits earlier (inr (inr (inr (inr t)))) h = inline_fits earlier t h
 
 passes_keep : (earlier : List Pass) (t : Tree any_pass) → Few FitsPass 256 earlier → pass_offences (length earlier) t ≡ [] → Few FitsPass 256 (earlier ++ pass_of t ∷ [])
 passes_keep earlier t p h =

@@ -8,7 +8,7 @@ use Rattle.cj_grammar.proofs.Ahead.{ahead, begun_by, not_begun_by}
 use Rattle.cj_grammar.proofs.Begins.{shorter}
 use Rattle.cj_grammar.proofs.Repeats.{many_goes, many_stops}
 use Rattle.cj_grammar.proofs.Signs.{fits_one}
-use Rattle.cj_events.specs.Rules.{more_labels, guard, more_guards, anchors_pass, assume_pass, any_pass, passes, begin_event, step_event, compile_event, event, events}
+use Rattle.cj_events.specs.Rules.{more_labels, guard, more_guards, anchors_pass, assume_pass, delay_pass, const_pass, inline_pass, any_pass, passes, begin_event, step_event, compile_event, event, events}
 
 -- the next token says whether a rule begins that begins with no end
 pub begins : (signs : List Sign) (ts : List Lexeme) → has signs (Is End) ≡ false → is_next signs ts ≡ fits_one signs (front ts)
@@ -37,15 +37,15 @@ pub next_guard_shorter : (a b : List Lexeme) → eat (one Comma ▸ guard) a ≡
 next_guard_shorter a b h = shorter (one Comma ▸ guard) a b refl h
 
 pub passes_go : (a : List Lexeme) → starts any_pass a ≡ true → eat passes a ≡ (eat any_pass a >>= eat passes)
-unfolding passes any_pass anchors_pass assume_pass
+unfolding passes any_pass anchors_pass assume_pass delay_pass const_pass inline_pass
 passes_go a s = many_goes any_pass a refl s
 
 pub passes_stop : (a : List Lexeme) → starts any_pass a ≡ false → eat passes a ≡ Ok a
-unfolding passes any_pass anchors_pass assume_pass
+unfolding passes any_pass anchors_pass assume_pass delay_pass const_pass inline_pass
 passes_stop a s = many_stops any_pass a refl s
 
 pub pass_shorter : (a b : List Lexeme) → eat any_pass a ≡ Ok b → length b < length a
-unfolding any_pass anchors_pass assume_pass
+unfolding any_pass anchors_pass assume_pass delay_pass const_pass inline_pass
 pass_shorter a b h = shorter any_pass a b refl h
 
 pub events_go : (a : List Lexeme) → starts event a ≡ true → eat events a ≡ (eat event a >>= eat events)

@@ -11,7 +11,7 @@ use Rattle.cj_tokens.specs.declared.terminal.Terminal.TheVariants as terminal
 use Rattle.cj_grammar.specs.Reading.{offence}
 use Rattle.cj_script.proofs.Turns.{behind_within, Within, ok_within, err_within, judged_within, then_within, cond_within, all_stops, all_fails, all_goes}
 use Rattle.cj_events.specs.Meaning.{label_of, label_offences}
-use Rattle.cj_events.specs.Reading.{is_number, next_label, labels_at, is_comma, guard_at, next_guard, more_guards_at, guards_at, is_pass, anchors_at, assume_at, pass_at, next_pass, passes_at}
+use Rattle.cj_events.specs.Reading.{is_number, next_label, labels_at, is_comma, guard_at, next_guard, more_guards_at, guards_at, is_pass, anchors_at, assume_at, delay_at, inline_at, any_pass_at, pass_at, next_pass, passes_at}
 use Rattle.cj_events.proofs.GuardTurns.{guard_within}
 use Rattle.cj_events.proofs.LabelTurns.{label_within}
 use Rattle.cj_events.proofs.ManyTurns.{all_within}
@@ -51,12 +51,33 @@ assume_within ts =
     (then_within (guards_at (behind ts)) (length (behind ts)) (length ts) _ (guards_within (behind ts))
     (λ guards fewer. ok_within _ (length ts) guards.1 (omega arith)))
 
+delay_within : (ts : List Lexeme) → Within Pass (length ts) (delay_at ts)
+unfolding delay_at
+delay_within ts =
+    then_within (labels_at [] ts) (length ts) (length ts) _ (labels_within [] ts)
+    (λ path fewer. then_within (guards_at path.1) (length path.1) (length ts) _ (guards_within path.1)
+    (λ guards less. ok_within _ (length ts) guards.1 (omega arith)))
+
+inline_within : (ts : List Lexeme) → Within Pass (length ts) (inline_at ts)
+unfolding inline_at
+inline_within ts =
+    let one : length (behind ts) ≤ length ts = behind_within ts in
+    judged_within (label_offences (front ts)) (label_of (front ts)) (length ts) _ (ok_within _ (length ts) (behind ts) one)
+
 -- a pass takes its first word
+any_within : (ts : List Lexeme) → Within Pass (length (behind ts)) (any_pass_at ts)
+unfolding any_pass_at
+any_within ts =
+    let n : ℕ = length (behind ts) in
+    cond_within (is_terminal terminal.Anchors (front ts)) n _ _ (anchors_within (behind ts))
+    (cond_within (is_terminal terminal.Assume (front ts)) n _ _ (assume_within (behind ts))
+    (cond_within (is_terminal terminal.Delay (front ts)) n _ _ (delay_within (behind ts))
+    (cond_within (is_terminal terminal.Const (front ts)) n _ _ (ok_within _ n (behind ts) (omega arith)) (inline_within (behind ts)))))
+
 pub pass_within : (earlier : ℕ) (ts : List Lexeme) → Within Pass (length (behind ts)) (pass_at earlier ts)
 unfolding pass_at
 pass_within earlier ts =
-    cond_within (nat_le 256 earlier) (length (behind ts)) _ _ (err_within Pass (length (behind ts)) (offence (front ts) TooMany))
-    (cond_within (is_terminal terminal.Anchors (front ts)) (length (behind ts)) _ _ (anchors_within (behind ts)) (assume_within (behind ts)))
+    cond_within (nat_le 256 earlier) (length (behind ts)) _ _ (err_within Pass (length (behind ts)) (offence (front ts) TooMany)) (any_within ts)
 
 pass_taken : (ts : List Lexeme) → is_pass ts ≡ true → length (behind ts) < length ts
 unfolding front behind

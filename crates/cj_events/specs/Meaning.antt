@@ -10,7 +10,7 @@ use Rattle.cj_ir.specs.declared.language.Label.{Label}
 use Rattle.cj_ir.specs.declared.language.Program.{Program}
 use Rattle.cj_ir.specs.declared.language.Reg.{Reg}
 use Rattle.cj_draft.specs.declared.passes.Pass.{Pass}
-use Rattle.cj_draft.specs.declared.passes.Pass.TheVariants.{Anchors, Assume}
+use Rattle.cj_draft.specs.declared.passes.Pass.TheVariants.{Anchors, Assume, Delay, Const, Inline}
 use Rattle.cj_tokens.specs.Lexemes.{Lexeme}
 use Rattle.cj_tokens.specs.declared.refusal.Kind.TheVariants.{TooMany}
 use Rattle.cj_tokens.specs.declared.refusal.Refused.{Refused}
@@ -19,7 +19,7 @@ use Rattle.cj_grammar.specs.Reading.{offends_if, highest, each_offends}
 use Rattle.cj_script.specs.Meaning.{out_of_range, limit_offences, function_offences, id_named, begun_offences, begun_of}
 use Rattle.cj_events.specs.declared.events.Event.{Event}
 use Rattle.cj_events.specs.declared.events.Event.TheVariants.{Begin, Step, Compile}
-use Rattle.cj_events.specs.Rules.{more_labels, labels, equation, guard, more_guards, guards, anchors_pass, assume_pass, any_pass, passes, begin_event, step_event, compile_event, event, events, history}
+use Rattle.cj_events.specs.Rules.{more_labels, labels, equation, guard, more_guards, guards, anchors_pass, assume_pass, delay_pass, const_pass, inline_pass, any_pass, passes, begin_event, step_event, compile_event, event, events, history}
 use Rattle.cj_events.specs.Tallies.{runs, limits, counts, compiles}
 
 -- ---- labels of drafts
@@ -102,16 +102,47 @@ unfoldable pub assume_of : Tree assume_pass → Pass
 unfolding assume_pass
 assume_of (word, (anchor, tests)) = Assume (label_of anchor.token) (guards_of tests)
 
+unfoldable pub delay_offences : ℕ → Tree delay_pass → List Refused
+unfolding delay_pass
+delay_offences earlier (word, (path, tests)) =
+    pass_word_offences earlier word.token ++ (labels_offences path ++ guards_offences tests)
+
+unfoldable pub delay_of : Tree delay_pass → Pass
+unfolding delay_pass
+delay_of (word, (path, tests)) = Delay (labels_of path) (guards_of tests)
+
+unfoldable pub const_offences : ℕ → Tree const_pass → List Refused
+unfolding const_pass
+const_offences earlier word = pass_word_offences earlier word.token
+
+unfoldable pub const_of : Tree const_pass → Pass
+unfolding const_pass
+const_of word = Const
+
+unfoldable pub inline_offences : ℕ → Tree inline_pass → List Refused
+unfolding inline_pass
+inline_offences earlier (word, call) = pass_word_offences earlier word.token ++ label_offences call.token
+
+unfoldable pub inline_of : Tree inline_pass → Pass
+unfolding inline_pass
+inline_of (word, call) = Inline (label_of call.token)
+
 -- a pass behind so many others
 unfoldable pub pass_offences : ℕ → Tree any_pass → List Refused
 unfolding any_pass
 pass_offences earlier (inl anchors) = anchors_offences earlier anchors
-pass_offences earlier (inr assume) = assume_offences earlier assume
+pass_offences earlier (inr (inl assume)) = assume_offences earlier assume
+pass_offences earlier (inr (inr (inl delay))) = delay_offences earlier delay
+pass_offences earlier (inr (inr (inr (inl constants)))) = const_offences earlier constants
+pass_offences earlier (inr (inr (inr (inr inline)))) = inline_offences earlier inline
 
 unfoldable pub pass_of : Tree any_pass → Pass
 unfolding any_pass
 pass_of (inl anchors) = anchors_of anchors
-pass_of (inr assume) = assume_of assume
+pass_of (inr (inl assume)) = assume_of assume
+pass_of (inr (inr (inl delay))) = delay_of delay
+pass_of (inr (inr (inr (inl constants)))) = const_of constants
+pass_of (inr (inr (inr (inr inline)))) = inline_of inline
 
 unfoldable pub passes_offences : Tree passes → List Refused
 unfolding passes

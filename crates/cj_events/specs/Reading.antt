@@ -67,7 +67,12 @@ guards_at ts = guard_at 0 ts >>= λ first. more_guards_at (first.0 ∷ []) first
 -- ---- passes
 
 abbrev pub is_pass : List Lexeme → Bool
-is_pass ts = is_terminal terminal.Anchors (front ts) || is_terminal terminal.Assume (front ts)
+is_pass ts =
+    is_terminal terminal.Anchors (front ts)
+    || is_terminal terminal.Assume (front ts)
+    || is_terminal terminal.Delay (front ts)
+    || is_terminal terminal.Const (front ts)
+    || is_terminal terminal.Inline (front ts)
 
 -- behind their first words
 
@@ -80,12 +85,23 @@ assume_at ts =
     >>= λ anchor. guards_at (behind ts)
     >>= λ guards. Ok (pass.Assume anchor guards.0, guards.1)
 
+unfoldable pub delay_at : List Lexeme → Read Pass
+delay_at ts =
+    labels_at [] ts >>= λ path. guards_at path.1 >>= λ guards. Ok (pass.Delay path.0 guards.0, guards.1)
+
+unfoldable pub inline_at : List Lexeme → Read Pass
+inline_at ts = judged (label_offences (front ts)) (label_of (front ts)) >>= λ call. Ok (pass.Inline call, behind ts)
+
+-- with its first word
+unfoldable pub any_pass_at : List Lexeme → Read Pass
+any_pass_at ts =
+    cond (is_terminal terminal.Anchors (front ts)) (anchors_at (behind ts))
+    (cond (is_terminal terminal.Assume (front ts)) (assume_at (behind ts))
+    (cond (is_terminal terminal.Delay (front ts)) (delay_at (behind ts))
+    (cond (is_terminal terminal.Const (front ts)) (Ok (pass.Const, behind ts)) (inline_at (behind ts)))))
+
 unfoldable pub pass_at : ℕ → List Lexeme → Read Pass
-pass_at earlier ts =
-    cond
-    (nat_le 256 earlier)
-    (Err (offence (front ts) TooMany))
-    (cond (is_terminal terminal.Anchors (front ts)) (anchors_at (behind ts)) (assume_at (behind ts)))
+pass_at earlier ts = cond (nat_le 256 earlier) (Err (offence (front ts) TooMany)) (any_pass_at ts)
 
 abbrev pub next_pass : List Pass → List Lexeme → Read Pass
 next_pass earlier ts = pass_at (length earlier) ts

@@ -30,9 +30,17 @@ anchors_pass = one terminal.Anchors ▸ labels
 unfoldable pub assume_pass : Rule
 assume_pass = one terminal.Assume ▸ one terminal.Number ▸ guards
 
--- one way for each pass that there is
+unfoldable pub delay_pass : Rule
+delay_pass = one terminal.Delay ▸ labels ▸ guards
+
+unfoldable pub const_pass : Rule
+const_pass = one terminal.Const
+
+unfoldable pub inline_pass : Rule
+inline_pass = one terminal.Inline ▸ one terminal.Number
+
 unfoldable pub any_pass : Rule
-any_pass = anchors_pass ∣ assume_pass
+any_pass = anchors_pass ∣ assume_pass ∣ delay_pass ∣ const_pass ∣ inline_pass
 
 unfoldable pub passes : Rule
 passes = many any_pass

@@ -6,7 +6,7 @@ ghost use Rattle.cj_tokens.specs.Passing.{ended};
 ghost use Rattle.cj_tokens.specs.declared.terminal.Terminal.TheVariants.{Comma};
 ghost use Rattle.cj_grammar.specs.Grammar.{eat, starts};
 ghost use Rattle.cj_grammar.specs.Rules.{one, ◌▸◌};
-ghost use Rattle.cj_events.specs.Rules.{labels, equation, guard, guards, anchors_pass, assume_pass, any_pass, passes};
+ghost use Rattle.cj_events.specs.Rules.{labels, equation, guard, guards, anchors_pass, assume_pass, delay_pass, const_pass, inline_pass, any_pass, passes};
 
 use cj_tokens::{Terminal, Tokens, Unfit};
 
@@ -76,20 +76,43 @@ fn pass_assume(tokens: &mut Tokens<'_>) -> Result<(), Unfit>
     pass_guards(tokens)
 }
 
-#[tactic(auto, using(crate::proofs::GrammarTurns::begins), unfolding(crate::specs::Rules::any_pass, crate::specs::Rules::anchors_pass, crate::specs::Rules::assume_pass))]
+#[tactic(auto, unfolding(crate::specs::Rules::delay_pass))]
+fn pass_delay(tokens: &mut Tokens<'_>) -> Result<(), Unfit>
+    ensures { eat delay_pass (left tokens.old) ≡ ended result (left tokens.new) }
+{
+    tokens.expect(Terminal::Delay)?;
+    pass_labels(tokens)?;
+    pass_guards(tokens)
+}
+
+#[tactic(auto, unfolding(crate::specs::Rules::inline_pass))]
+fn pass_inline(tokens: &mut Tokens<'_>) -> Result<(), Unfit>
+    ensures { eat inline_pass (left tokens.old) ≡ ended result (left tokens.new) }
+{
+    tokens.expect(Terminal::Inline)?;
+    tokens.expect(Terminal::Number)
+}
+
+#[tactic(auto, using(crate::proofs::GrammarTurns::begins), unfolding(crate::specs::Rules::any_pass, crate::specs::Rules::anchors_pass, crate::specs::Rules::assume_pass, crate::specs::Rules::delay_pass, crate::specs::Rules::const_pass, crate::specs::Rules::inline_pass))]
 fn begins_pass(tokens: &Tokens<'_>) -> bool
     ensures { result ≡ starts any_pass (left tokens.now) }
 {
-    matches!(tokens.peek(), Terminal::Anchors | Terminal::Assume)
+    matches!(
+        tokens.peek(),
+        Terminal::Anchors | Terminal::Assume | Terminal::Delay | Terminal::Const | Terminal::Inline
+    )
 }
 
-#[tactic(auto, using(crate::proofs::GrammarTurns::begins), unfolding(crate::specs::Rules::any_pass, crate::specs::Rules::anchors_pass, crate::specs::Rules::assume_pass))]
+#[tactic(auto, using(crate::proofs::GrammarTurns::begins), unfolding(crate::specs::Rules::any_pass, crate::specs::Rules::anchors_pass, crate::specs::Rules::assume_pass, crate::specs::Rules::delay_pass, crate::specs::Rules::const_pass, crate::specs::Rules::inline_pass))]
 fn pass_any(tokens: &mut Tokens<'_>) -> Result<(), Unfit>
     ensures { eat any_pass (left tokens.old) ≡ ended result (left tokens.new) }
 {
     match tokens.peek() {
         Terminal::Anchors => pass_anchors(tokens),
-        _ => pass_assume(tokens),
+        Terminal::Assume => pass_assume(tokens),
+        Terminal::Delay => pass_delay(tokens),
+        Terminal::Const => tokens.expect(Terminal::Const),
+        _ => pass_inline(tokens),
     }
 }
 

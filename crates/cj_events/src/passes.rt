@@ -3,7 +3,7 @@
 ghost use Rattle.std.specs.Prelude.{◌≡◌, []};
 ghost use Rattle.cj_tokens.specs.Left.{left};
 ghost use Rattle.cj_grammar.specs.Reading.{Gives};
-ghost use Rattle.cj_events.specs.Reading.{is_pass, anchors_at, assume_at, pass_at, passes_at};
+ghost use Rattle.cj_events.specs.Reading.{is_pass, anchors_at, assume_at, delay_at, inline_at, any_pass_at, pass_at, passes_at};
 
 use crate::guards::read_guards;
 use crate::judge::{draft_label, refused};
@@ -32,26 +32,60 @@ fn read_assume(alloc: Global, tokens: &mut Tokens<'_>) -> Result<Pass, ParseErro
     Ok(Pass::Assume { anchor, guards })
 }
 
+/// The path and the guards behind `delay`.
+#[tactic(auto, unfolding(crate::specs::Reading::delay_at))]
+fn read_delay(alloc: Global, tokens: &mut Tokens<'_>) -> Result<Pass, ParseError>
+    ensures { Gives result (left tokens.new) (delay_at (left tokens.old)) }
+{
+    let path = read_labels(alloc, tokens)?;
+    let guards = read_guards(alloc, tokens)?;
+    Ok(Pass::Delay { path, guards })
+}
+
+/// The label behind `inline`.
+#[tactic(auto, unfolding(crate::specs::Reading::inline_at))]
+fn read_inline(tokens: &mut Tokens<'_>) -> Result<Pass, ParseError>
+    ensures { Gives result (left tokens.new) (inline_at (left tokens.old)) }
+{
+    let token = tokens.take();
+    let call = draft_label(token)?;
+    Ok(Pass::Inline { call })
+}
+
+/// A pass.
+#[tactic(auto, unfolding(crate::specs::Reading::any_pass_at))]
+fn read_any(alloc: Global, tokens: &mut Tokens<'_>) -> Result<Pass, ParseError>
+    ensures { Gives result (left tokens.new) (any_pass_at (left tokens.old)) }
+{
+    let word = tokens.take();
+    match word.terminal {
+        Terminal::Anchors => read_anchors(alloc, tokens),
+        Terminal::Assume => read_assume(alloc, tokens),
+        Terminal::Delay => read_delay(alloc, tokens),
+        Terminal::Const => Ok(Pass::Const),
+        _ => read_inline(tokens),
+    }
+}
+
 /// A pass behind so many others.
 #[tactic(auto, unfolding(crate::specs::Reading::pass_at))]
 fn read_pass(alloc: Global, tokens: &mut Tokens<'_>, earlier: usize) -> Result<Pass, ParseError>
     ensures { Gives result (left tokens.new) (pass_at earlier (left tokens.old)) }
 {
-    let word = tokens.take();
     if earlier >= 256 {
-        return Err(refused(word, Kind::TooMany));
+        return Err(refused(tokens.take(), Kind::TooMany));
     }
-    match word.terminal {
-        Terminal::Anchors => read_anchors(alloc, tokens),
-        _ => read_assume(alloc, tokens),
-    }
+    read_any(alloc, tokens)
 }
 
 /// A pass stands next.
 fn is_pass(tokens: &Tokens<'_>) -> bool
     ensures { result ≡ is_pass (left tokens.now) }
 {
-    tokens.is_at(Terminal::Anchors) || tokens.is_at(Terminal::Assume)
+    matches!(
+        tokens.peek(),
+        Terminal::Anchors | Terminal::Assume | Terminal::Delay | Terminal::Const | Terminal::Inline
+    )
 }
 
 /// The passes that stand next.

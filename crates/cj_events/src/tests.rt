@@ -189,10 +189,13 @@ fn names_and_the_first_class(rt: HostRuntime) {
             refused(3, Kind::Number),
         ),
         (
-            "step 1 1\ncompile twice {\ndelay 0 1 when never }",
+            "step 1 1\ncompile twice {\ndelay when never }",
             refused(4, Kind::Syntax),
         ),
         ("compile twice { anchors\n}", refused(3, Kind::Syntax)),
+        ("compile twice { delay 0 1\n}", refused(3, Kind::Syntax)),
+        ("compile twice { const\n0 }", refused(3, Kind::Syntax)),
+        ("compile twice { inline\n512 }", refused(3, Kind::Range)),
         (
             "compile twice { assume 0 when never,\n}",
             refused(3, Kind::Syntax),
@@ -255,10 +258,42 @@ fn is_the_compilation(event: &Event) -> bool {
     }
 }
 
+fn is_the_delay(pass: &Pass) -> bool {
+    match pass {
+        Pass::Delay { path, guards } => {
+            path.items() == [Label(4), Label(0), Label(2)].as_slice()
+                && guards.items() == [Guard::Never].as_slice()
+        }
+        _ => false,
+    }
+}
+
+fn is_the_inlining(pass: &Pass) -> bool {
+    match pass {
+        Pass::Inline { call } => *call == Label(2),
+        _ => false,
+    }
+}
+
+fn is_the_other_compilation(event: &Event) -> bool {
+    match event {
+        Event::Compile { function, passes } => match passes.items() {
+            [delay, Pass::Const, inline] => {
+                *function == FunId(0) && is_the_delay(delay) && is_the_inlining(inline)
+            }
+            _ => false,
+        },
+        _ => false,
+    }
+}
+
 fn are_the_events(events: &Events) -> bool {
     match events.items() {
-        [begin, step, compile] => {
-            is_the_beginning(begin) && are_the_steps(step) && is_the_compilation(compile)
+        [begin, step, compile, other] => {
+            is_the_beginning(begin)
+                && are_the_steps(step)
+                && is_the_compilation(compile)
+                && is_the_other_compilation(other)
         }
         _ => false,
     }
@@ -268,7 +303,8 @@ fn are_the_events(events: &Events) -> bool {
 fn what_is_read(rt: HostRuntime) -> Result<(), Fail> {
     let text =
         "fun main(n) { 1: return n } fun twice() { 1: return 0 } events begin main 3 limit 100 \
-        step 1 2 compile twice { anchors 0 1 assume 3 when 0 = 5, never }";
+        step 1 2 compile twice { anchors 0 1 assume 3 when 0 = 5, never } \
+        compile main { delay 4 0 2 when never const inline 2 }";
     let (checked, events) = parse_replay(rt.alloc(), text.as_bytes())?;
     assert_eq!(rt; checked.program().functions.items().len(), 2);
     assert!(rt; are_the_events(&events));

@@ -1,0 +1,16 @@
+pub mod Rows
+pub mod FlowSteps
+pub mod Joining
+pub mod FoldedPlaces
+pub mod Told
+pub mod Monotone
+pub mod Effects
+pub mod Flowing
+pub mod FoldedNames
+pub mod Refined
+pub mod Together
+pub mod FoldSound
+pub mod Meeting
+pub mod SearchSteps
+pub mod SearchEnds
+pub mod SearchCalls

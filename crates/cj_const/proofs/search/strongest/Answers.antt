@@ -1,0 +1,14 @@
+use Rattle.std.proofs.Common.{◌∙◌, map, sym, ap, subst}
+use Rattle.cj_draft.specs.declared.code.Code.{Code}
+use Rattle.cj_const.specs.Flow.{IsStrongest}
+use Rattle.cj_const.specs.Search.{facts_in}
+use Rattle.cj_const.proofs.SearchEnds.{search-ends}
+use Rattle.cj_const.proofs.search.strongest.Goals as goal
+
+pub returns : goal.returns
+returns c =
+    let draft = c.args.draft.now in
+    let rows = c.step.new.self.rows in
+    let w = c.step.new.self.waiting in
+    subst (IsStrongest draft.context draft.code) (sym (c.in_ok-table.ensures ∙ ap (λ (z : Code). map (facts_in z.regs) rows) c.code.ensures.same))
+    (search-ends draft.context draft.code rows w c.in_ok-step.ensures.search (c.in_ok-step.ensures.done c.if-branch.false))

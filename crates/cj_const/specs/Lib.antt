@@ -1,0 +1,4 @@
+pub mod Knowledge
+pub mod Flow
+pub mod Folding
+pub mod Search

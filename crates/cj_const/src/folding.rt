@@ -1,0 +1,110 @@
+//! A draft folded over its strongest facts.
+
+ghost use Rattle.std.specs.Prelude.{◌≡◌, All, IfOk, length};
+ghost use Rattle.cj_draft.specs.WellNamed.{HasFineFacts};
+ghost use Rattle.cj_const.specs.Folding.{folded_by, folded_place, folded_places, folded, IsFolded};
+
+use crate::facts::together;
+use crate::instructions::folded_instr;
+use crate::knowledge::row_of;
+use crate::search::strongest;
+use cj_draft::{Code, Draft, Facts, Place, Places, VInstr};
+use cj_ir::{Duplicate, NoMemory};
+use std::alloc::Global;
+
+/// The draft folded over its strongest facts. At each label with Known facts, registers with facts become constants in
+/// the operands; an op that has a value from constants becomes a copy of it, and a division by 0 stays; a cond whose test
+/// is known becomes a nop to the label that it takes; guards that are true by the facts go, and where one is false by them
+/// `never` stands alone. Points, targets and pairs stay, and so do instructions at other labels. The facts of each label
+/// become the old ones together with the strongest, and `Unreached` where either is, or where two values meet for a
+/// register. The program and the context stay.
+pub fn fold<'p>(draft: Draft<'p>) -> Result<Draft<'p>, NoMemory>
+    ensures program { IfOk result (λ made. made.program ≡ draft.entry.program) }
+    ensures context { IfOk result (λ made. made.context ≡ draft.entry.context) }
+    ensures code { IfOk result (λ made. IsFolded draft.entry.context draft.entry.code made.code) }
+{
+    let alloc = draft.code().places.allocator();
+    let table = strongest(alloc, &draft)?;
+    let (checked, context, code) = draft.into_parts();
+    let code = folded(code, table.items())?;
+    Ok(Draft::adopt_in(checked, context, code))
+}
+
+/// The code folded over a table of facts.
+#[tactic(auto, unfolding(crate::specs::Folding::folded))]
+fn folded(code: Code, table: &[Facts]) -> Result<Code, NoMemory>
+    requires count { length table.now ≡ length code.places }
+    requires own { All (λ place. HasFineFacts code.regs place.facts) code.places }
+    requires facts { All (HasFineFacts code.regs) table.now }
+    ensures { IfOk result (λ made. made ≡ folded code table.now) }
+{
+    let places = folded_places(
+        code.places.allocator(),
+        code.places.items(),
+        table,
+        code.regs,
+    )?;
+    Ok(Code {
+        function: code.function,
+        regs: code.regs,
+        entry: code.entry,
+        places,
+    })
+}
+
+/// Each place over the facts of its label.
+fn folded_places(
+    alloc: Global,
+    places: &[Place],
+    table: &[Facts],
+    regs: u32,
+) -> Result<Places, NoMemory>
+    requires count { length table.now ≡ length places.now }
+    requires own { All (λ place. HasFineFacts regs place.facts) places.now }
+    requires facts { All (HasFineFacts regs) table.now }
+    ensures { IfOk result (λ made. made ≡ folded_places regs places.now table.now) }
+{
+    let mut made = Places::new(alloc);
+    for (label, place) in places.iter().enumerate() {
+        made.push(folded_place(place, &table[label], regs)?)?;
+    }
+    Ok(made)
+}
+
+/// The place over the facts of its label.
+#[tactic(auto, unfolding(crate::specs::Folding::folded_place))]
+fn folded_place(place: &Place, facts: &Facts, regs: u32) -> Result<Place, NoMemory>
+    requires own { HasFineFacts regs place.now.facts }
+    requires facts { HasFineFacts regs facts.now }
+    ensures { IfOk result (λ made. made ≡ folded_place regs place.now facts.now) }
+{
+    let instr = folded_by(facts, &place.instr, regs)?;
+    let facts = together(&place.facts, facts, regs)?;
+    let point = place.point.copy()?;
+    let backs = place.backs.copy()?;
+    Ok(Place {
+        instr,
+        point,
+        facts,
+        backs,
+    })
+}
+
+/// The instruction over the facts of its label. Where they are `Unreached` it stays.
+#[tactic(auto, unfolding(crate::specs::Folding::folded_by))]
+fn folded_by(facts: &Facts, instr: &VInstr, regs: u32) -> Result<VInstr, NoMemory>
+    requires { HasFineFacts regs facts.now }
+    ensures { IfOk result (λ made. made ≡ folded_by facts.now instr.now) }
+{
+    match facts {
+        Facts::Unreached => {
+            let same = instr.copy()?;
+            Ok(same)
+        }
+        Facts::Known(facts) => {
+            let row = row_of(facts.allocator(), facts.items(), regs)?;
+            let made = folded_instr(&row, instr)?;
+            Ok(made)
+        }
+    }
+}

@@ -1,0 +1,10 @@
+pub mod Greatest
+pub mod EntryPairs
+pub mod Wider
+pub mod Shifted
+pub mod MapReads
+pub mod Seaming
+pub mod Conditions
+pub mod InlineRows
+pub mod InlineSound
+pub mod Once

@@ -1,0 +1,225 @@
+//! An accumulator in its caller, and a countdown in itself.
+
+ghost use Rattle.std.specs.Prelude.{◌≡◌, [], IfOk};
+
+use super::inline;
+use cj_draft::{Code, Draft, Pair, Pairs, Skipped, VInstr};
+use cj_ir::{
+    Checked, Duplicate, Expr, FunId, Function, Functions, Instr, Label, Line, Lines, Name, Names,
+    Operand, Operands, Program, Reg, check,
+};
+use std::alloc::Global;
+use std::process::Abort;
+use std::test::Fail;
+
+fn named(rt: &impl Abort, alloc: Global, name: &str) -> Result<Name, Fail> {
+    Ok(Name::of(alloc, name.as_bytes())?.expect(rt, "a name"))
+}
+
+fn add_line(code: &mut Lines, name: u32, instr: Instr) -> Result<(), Fail> {
+    Ok(code.push(Line { name, instr })?)
+}
+
+fn reg(number: u32) -> Operand {
+    Operand::Reg(Reg(number))
+}
+
+fn cond(then_to: u32, else_to: u32) -> Instr {
+    Instr::Cond {
+        test: reg(0),
+        then_to: Label(then_to),
+        else_to: Label(else_to),
+    }
+}
+
+// The value goes to register 1.
+fn op(expr: Expr, next: u32) -> Instr {
+    Instr::Op {
+        dest: Reg(1),
+        expr,
+        next: Label(next),
+    }
+}
+
+// A call whose value goes to register 1.
+fn call(alloc: Global, function: u32, arg: u32, next: u32) -> Result<Instr, Fail> {
+    let mut args = Operands::new(alloc);
+    args.push(reg(arg))?;
+    Ok(Instr::Call {
+        dest: Reg(1),
+        function: FunId(function),
+        args,
+        next: Label(next),
+    })
+}
+
+// main(n; r): call r = acc(n) -> 2 · print r -> 3 · return r
+fn main_lines(alloc: Global) -> Result<Lines, Fail> {
+    let mut code = Lines::new(alloc);
+    let value = reg(1);
+    let next = Label(2);
+    add_line(&mut code, 1, call(alloc, 1, 0, 1)?)?;
+    add_line(&mut code, 2, Instr::Print { value, next })?;
+    add_line(&mut code, 3, Instr::Return { value })?;
+    Ok(code)
+}
+
+// acc(x; t): op t = t + x -> 2 · return t
+fn acc_lines(alloc: Global) -> Result<Lines, Fail> {
+    let mut code = Lines::new(alloc);
+    let value = reg(1);
+    add_line(&mut code, 1, op(Expr::Add(value, reg(0)), 1))?;
+    add_line(&mut code, 2, Instr::Return { value })?;
+    Ok(code)
+}
+
+// down(k; r): cond k -> 2, 4 · op r = k - 1 -> 3 · call r = down(r) -> 4 · return r
+fn down_lines(alloc: Global) -> Result<Lines, Fail> {
+    let mut code = Lines::new(alloc);
+    let value = reg(1);
+    add_line(&mut code, 1, cond(1, 3))?;
+    add_line(&mut code, 2, op(Expr::Sub(reg(0), Operand::Const(1)), 2))?;
+    add_line(&mut code, 3, call(alloc, 2, 1, 3)?)?;
+    add_line(&mut code, 4, Instr::Return { value })?;
+    Ok(code)
+}
+
+fn function(rt: &impl Abort, alloc: Global, name: &str, code: Lines) -> Result<Function, Fail> {
+    let mut regs = Names::new(alloc);
+    regs.push(named(rt, alloc, "n")?)?;
+    regs.push(named(rt, alloc, "r")?)?;
+    Ok(Function {
+        name: named(rt, alloc, name)?,
+        params: 1,
+        regs,
+        code,
+    })
+}
+
+fn program(rt: &impl Abort, alloc: Global) -> Result<Checked, Fail> {
+    let mut functions = Functions::new(alloc);
+    functions.push(function(rt, alloc, "main", main_lines(alloc)?)?)?;
+    functions.push(function(rt, alloc, "acc", acc_lines(alloc)?)?)?;
+    functions.push(function(rt, alloc, "down", down_lines(alloc)?)?)?;
+    Ok(check(Program { functions }).expect(rt, "a well-formed program"))
+}
+
+fn has_counts(rt: &impl Abort, code: &Code, regs: u32, labels: usize) -> Result<(), Fail> {
+    assert_eq!(rt; code.entry, Label(0));
+    assert_eq!(rt; code.regs, regs);
+    assert_eq!(rt; code.places.items().len(), labels);
+    Ok(())
+}
+
+fn move_at(rt: &impl Abort, code: &Code, at: usize) -> Result<(Pairs, Label), Fail> {
+    assert!(rt; at < code.places.items().len());
+    match code.places.items()[at].instr.copy()? {
+        VInstr::Move { pairs, next } => Ok((pairs, next)),
+        _ => Err(Fail::from("no move")),
+    }
+}
+
+fn pair(dest: u32, value: Operand) -> Pair {
+    Pair {
+        dest: Reg(dest),
+        value,
+    }
+}
+
+// A move of the argument to register 2, and of 0 to register 3.
+fn enters(rt: &impl Abort, code: &Code, at: usize, arg: u32, next: u32) -> Result<(), Fail> {
+    let (pairs, to) = move_at(rt, code, at)?;
+    let set = [pair(2, reg(arg)), pair(3, Operand::Const(0))];
+    assert_eq!(rt; to, Label(next));
+    assert_eq!(rt; pairs.items(), set.as_slice());
+    Ok(())
+}
+
+// A move of register 3 to register 1.
+fn leaves(rt: &impl Abort, code: &Code, at: usize, next: u32) -> Result<(), Fail> {
+    let (pairs, to) = move_at(rt, code, at)?;
+    let set = [pair(1, reg(3))];
+    assert_eq!(rt; to, Label(next));
+    assert_eq!(rt; pairs.items(), set.as_slice());
+    Ok(())
+}
+
+fn frames_at(rt: &impl Abort, code: &Code, at: usize) -> Result<usize, Fail> {
+    assert!(rt; at < code.places.items().len());
+    Ok(code.places.items()[at].point.frames.items().len())
+}
+
+fn base<'p>(
+    rt: &impl Abort,
+    alloc: Global,
+    checked: &'p Checked,
+    number: u32,
+) -> Result<Draft<'p>, Fail>
+    ensures { IfOk result (λ draft. (draft.program ≡ checked.now) × (draft.context ≡ [])) }
+{
+    assert!(rt; (number as usize) < checked.program().functions.items().len());
+    let draft = Draft::of_base(alloc, checked, FunId(number))?;
+    Ok(draft)
+}
+
+fn made<'p>(
+    rt: &impl Abort,
+    draft: Draft<'p>,
+    call: u32,
+    callee: &Draft<'p>,
+) -> Result<Draft<'p>, Fail>
+    requires program { callee.now.program ≡ draft.program }
+    requires context { callee.now.context ≡ [] }
+    ensures { IfOk result (λ made. made.program ≡ draft.entry.program) }
+{
+    let (made, skipped) = inline(draft, Label(call), callee)?;
+    assert_eq!(rt; skipped, None);
+    Ok(made)
+}
+
+fn is_no_call<'p>(
+    rt: &impl Abort,
+    draft: Draft<'p>,
+    call: u32,
+    callee: &Draft<'p>,
+) -> Result<(), Fail>
+    requires program { callee.now.program ≡ draft.program }
+    requires context { callee.now.context ≡ [] }
+{
+    let label = Label(call);
+    let (left, skipped) = inline(draft, label, callee)?;
+    assert_eq!(rt; skipped, Some(Skipped::NotCall { label }));
+    has_counts(rt, left.code(), 4, 5)
+}
+
+fn has_accumulator(rt: &impl Abort, code: &Code) -> Result<(), Fail> {
+    has_counts(rt, code, 4, 5)?;
+    enters(rt, code, 0, 0, 3)?;
+    leaves(rt, code, 4, 1)?;
+    assert_eq!(rt; frames_at(rt, code, 4)?, 2);
+    Ok(())
+}
+
+fn has_itself(rt: &impl Abort, code: &Code) -> Result<(), Fail> {
+    has_counts(rt, code, 4, 8)?;
+    enters(rt, code, 2, 1, 4)?;
+    leaves(rt, code, 7, 3)
+}
+
+#[test]
+fn a_call_is_inlined_once(rt: HostRuntime) -> Result<(), Fail> {
+    let checked = program(&rt, rt.alloc())?;
+    let acc = base(&rt, rt.alloc(), &checked, 1)?;
+    let main = base(&rt, rt.alloc(), &checked, 0)?;
+    let made = made(&rt, main, 0, &acc)?;
+    has_accumulator(&rt, made.code())?;
+    is_no_call(&rt, made, 0, &acc)
+}
+
+#[test]
+fn a_function_is_inlined_into_itself(rt: HostRuntime) -> Result<(), Fail> {
+    let checked = program(&rt, rt.alloc())?;
+    let callee = base(&rt, rt.alloc(), &checked, 2)?;
+    let caller = base(&rt, rt.alloc(), &checked, 2)?;
+    has_itself(&rt, made(&rt, caller, 2, &callee)?.code())
+}

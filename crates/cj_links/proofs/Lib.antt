@@ -1,0 +1,8 @@
+pub mod ListReads
+pub mod Marks
+pub mod Windows
+pub mod Rings
+pub mod Members
+pub mod Chains
+pub mod Threading
+pub mod Giving

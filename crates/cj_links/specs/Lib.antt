@@ -1,0 +1,4 @@
+pub mod Waiting
+pub mod Slots
+pub mod EdgeTable
+pub mod Threads

@@ -1,0 +1,11 @@
+pub mod Gaining
+pub mod Trails
+pub mod Calls
+pub mod Finding
+pub mod Steps
+pub mod Reporting
+pub mod Changing
+pub mod Zips
+pub mod Playing
+pub mod Uniqueness
+pub mod Answering

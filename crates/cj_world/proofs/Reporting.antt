@@ -1,0 +1,44 @@
+-- The report of a run that has ended or has reached its limit.
+use Rattle.std.proofs.Common.{◌≡◌, refl, ap, subst, eq-eqb, arith, ℕ, List, length, Option, Some, None, inl, inr, if◌then◌else◌}
+use Rattle.cj_ir.specs.declared.language.Program.{Program}
+use Rattle.cj_base.specs.declared.machine.End.{End}
+use Rattle.cj_base.specs.declared.machine.End.TheVariants.{TurnLimit}
+use Rattle.cj_base.specs.Run.{Begun, begun}
+use Rattle.cj_calls.specs.declared.report.Look.{Look}
+use Rattle.cj_engine.specs.Versions.{State, Codes}
+use Rattle.cj_engine.specs.VersionRuns.{if_used, report_of, report_at, version_report}
+use Rattle.cj_engine.specs.Machines.{state_of}
+use Rattle.cj_engine.specs.Engines.{IsRun}
+use Rattle.cj_world.specs.declared.runs.Run as code
+use Rattle.cj_world.specs.Running.{progress_by, end_answered, IsAt, IsThrough, Fits}
+use Rattle.cj_world.proofs.Steps.{HasMade}
+
+used_whole : (looks : List Look) (end : End) (s : State) → s.entries ≡ length looks → if_used looks end s ≡ Some (report_of looks end s)
+unfolding if_used
+used_whole looks end s used = ap (λ b. if b then Some (report_of looks end s) else None) (eq-eqb s.entries (length looks) used)
+
+pub read_at : (looks : List Look) (o : Option End) (s : State) → s.entries ≡ length looks → report_at looks (progress_by o s) ≡ Some (report_of looks (end_answered o) s)
+unfolding progress_by end_answered report_at
+read_at looks None s used = used_whole looks TurnLimit s used
+read_at looks (Some end) s used = used_whole looks end s used
+
+-- the law on runs that reached their limits
+abbrev pub LimitReports : Type 0
+LimitReports =
+    (P : Program) (codes : Codes) (looks : List Look) (call : Begun) (s : State) →
+    IsRun P codes looks call s → s.turns ≡ call.limit → version_report P codes looks call ≡ Some (report_of looks TurnLimit s)
+
+pub told_whole : LimitReports → (P : Program) (codes : Codes) (looks : List Look) (call : Begun) (o : Option End) (s : State) → IsAt P codes looks call o s → (o ≡ None → s.turns ≡ call.limit) → version_report P codes looks call ≡ Some (report_of looks (end_answered o) s)
+unfolding end_answered
+told_whole law P codes looks call None s at through = law P codes looks call s at (through refl)
+told_whole law P codes looks call (Some end) s at through = at
+
+-- as many turns as the limit allows
+pub through_at_limit : (P : Program) (codes : Codes) (run : code.Run) (n : ℕ) → Fits P codes run → HasMade n run → run.call.now.limit ≡ n → IsThrough run
+unfolding begun state_of
+through_at_limit P codes run n fits (inl through) same = through
+through_at_limit P codes run n fits (inr made) same = λ none.
+    let is : IsRun P codes run.engine.machine.looks (begun run.call.now) (state_of run.engine.machine) =
+    subst (λ (o : Option End). IsAt P codes run.engine.machine.looks (begun run.call.now) o (state_of run.engine.machine)) none fits.at in
+    let within = is.within in
+    omega arith

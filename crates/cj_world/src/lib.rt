@@ -1,0 +1,15 @@
+//! Plays of events: runs that begin and make steps, and functions that are compiled meanwhile.
+#![tactic(auto)]
+
+mod cache;
+pub mod laws;
+mod played;
+mod plays;
+mod runs;
+mod world;
+
+pub use played::{Compiled, CompiledList, Played, SkipLists};
+pub use plays::play;
+
+#[cfg(test)]
+mod tests;
