@@ -10,8 +10,8 @@ ghost use Rattle.cj_driver.specs.declared.command.Command.{Command};
 ghost use Rattle.cj_driver.specs.declared.command.Command.TheVariants.{OnInput, OnReplay};
 ghost use Rattle.cj_driver.specs.declared.command.Job.{Job};
 
-use cj_io::{ReadError, Source, read_all};
 use cj_events::{Events, parse_replay};
+use cj_io::{ReadError, Source, read_all};
 use cj_ir::{Checked, Input};
 use cj_text::parse;
 use cj_tokens::{ParseError, Refused};

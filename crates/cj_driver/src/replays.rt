@@ -17,11 +17,13 @@ const TWO_CALLS: &str = "fun main(n; r) { 1: call r = mid(n) -> 2 2: return r }
 const SUM: &str = "fun sum(k; r) { 1: cond k -> 2, 4 2: op r = k - 1 -> 3 3: call r = sum(r) -> 5
     4: return 0 5: op r = r + k -> 6 6: return r }";
 
-const ACCUMULATOR: &str = "fun main(n; r) { 1: cond n -> 2, 5 2: call r = acc(n) -> 3 3: print r -> 4
+const ACCUMULATOR: &str =
+    "fun main(n; r) { 1: cond n -> 2, 5 2: call r = acc(n) -> 3 3: print r -> 4
     4: op n = n - 1 -> 1 5: return r }
     fun acc(x; t) { 1: op t = t + x -> 2 2: return t }";
 
-const TWICE: &str = "fun main(n; r) { 1: call r = twice(n) -> 2 2: call r = twice(r) -> 3 3: return r }
+const TWICE: &str =
+    "fun main(n; r) { 1: call r = twice(n) -> 2 2: call r = twice(r) -> 3 3: return r }
     fun twice(x) { 1: op x = x * 2 -> 2 2: return x }";
 
 const ZERO_DIVISOR: &str = "fun main(; r) { 1: op r = 7 / 0 -> 2 2: return r }";

@@ -64,12 +64,7 @@ fn answer<S: Source, K: Sink>(
 }
 
 /// What is answered for an input.
-fn answer_input<S: Source, K: Sink>(
-    alloc: Global,
-    job: Job,
-    source: &mut S,
-    sink: &mut K,
-) -> Finish
+fn answer_input<S: Source, K: Sink>(alloc: Global, job: Job, source: &mut S, sink: &mut K) -> Finish
     ensures { Answers (OnInput job) (outside (S.left source.old) (S.left source.new) (K.written sink.old) (K.written sink.new) (S.faults source.old) (S.faults source.new) (K.faults sink.old) (K.faults sink.new)) result }
 {
     match read_input(alloc, source) {

@@ -79,9 +79,11 @@ inline_keeps P code call callee = by_offence (inlining.inline_offence code call 
     by_instr place (Fail f label) = refl
     by_instr place (version.Assume guards back target next) = refl
     by_instr place (version.Anchor back target next) = refl
+
     by_place : (o : Option Place) → (inlining.inlined_at P code call callee o).function ≡ code.function
     by_place None = refl
     by_place (Some place) = by_instr place place.instr
+
     by_offence : (o : Option Skipped) → (inlining.unless o code (inlining.inlined P code call callee)).function ≡ code.function
     by_offence None = by_place (place_at code call)
     by_offence (Some skipped) = refl
