@@ -1,5 +1,5 @@
 -- A run, turn by turn.
-use Rattle.std.proofs.Common.{◌≡◌, ◌≢◌, ◌∙◌, ap, refl, ℕ, zero, suc, ◌+◌, ◌-◌, ◌<◌, ◌≤◌, ◌⊎◌, ⊎_elim, inl, inr, List, [], ℤ, length, add-one, append-nil, arith}
+use Rattle.std.proofs.Common.{◌≡◌, ◌≢◌, ◌∙◌, ap, subst, refl, ℕ, zero, suc, ◌+◌, ◌-◌, ◌<◌, ◌≤◌, ◌⊎◌, ⊎_elim, inl, inr, List, [], ℤ, length, add-one, append-nil, arith}
 use Rattle.std.specs.Prelude.{⊤}
 use Rattle.std.proofs.lemmas.Bool.{cases_lt}
 use Rattle.cj_ir.specs.WellFormed.{IsWellFormed, Takes}
@@ -69,14 +69,20 @@ pub going_before : (P : Program) (call : Begun) (m n k : ℕ) (printed p : List 
 going_before P call m n k printed p c end going over =
     ⊎_elim (λ lt. lt) (λ le. let same = over_stays P call n m k printed end over le in cc) (cases_lt m n)
 
--- a run ends once
-pub ends_once : (P : Program) (call : Begun) (n m : ℕ) (printed p : List ℤ) (end e : End) → EndStands P call n printed end → EndStands P call m p e → (n ≡ m) × (printed ≡ p) × (end ≡ e)
-ends_once P call n m printed p end e h k = ⊎_elim
+-- a run has one end
+pub one_end : (P : Program) (call : Begun) (n m t u : ℕ) (printed p : List ℤ) (end e : End) → base_run P call n ≡ Over printed end t → base_run P call m ≡ Over p e u → (printed ≡ p) × (end ≡ e) × (t ≡ u)
+one_end P call n m t u printed p end e h k = ⊎_elim
     (λ (lt : n < m).
     let le : n ≤ m = omega arith in
-    let same = over_stays P call n m n printed end h le in
+    let same = over_stays P call n m t printed end h le in
     (cc, cc, cc))
-    (λ le. let same = over_stays P call m n m p e k le in (cc, cc, cc)) (cases_lt n m)
+    (λ le. let same = over_stays P call m n u p e k le in (cc, cc, cc)) (cases_lt n m)
+
+-- it ends once
+pub ends_once : (P : Program) (call : Begun) (n m : ℕ) (printed p : List ℤ) (end e : End) → EndStands P call n printed end → EndStands P call m p e → (n ≡ m) × (printed ≡ p) × (end ≡ e)
+ends_once P call n m printed p end e h k =
+    let same = one_end P call n m n m printed p end e h k in
+    (same.2, same.0, same.1)
 
 -- What the run up to the limit gives is all that there is.
 limit_or_not : (end : End) → (end ≡ TurnLimit) ⊎ (end ≢ TurnLimit)
@@ -135,3 +141,9 @@ pub run_fits : (P : Program) (call : Begun) → IsWellFormed P → Takes P.funct
 unfolding base_run
 run_fits P call formed takes zero = start_fits P call formed takes
 run_fits P call formed takes (suc n) = more_fits P (suc n) (base_run P call n) formed (run_fits P call formed takes n)
+
+pub run_not_lost : (P : Program) (r : Run) → FitsRun P r → r ≢ Lost
+run_not_lost P r fits = λ e. subst (FitsRun P) e fits
+
+pub run_fits_at : (P : Program) (r : Run) (printed : List ℤ) (c : Config) → FitsRun P r → r ≡ Going printed c → Fits P c
+run_fits_at P r printed c fits e = subst (FitsRun P) e fits

@@ -50,6 +50,12 @@ unfoldable pub base_run : Program → Begun → ℕ → Run
 base_run P call zero = Going [] (start_of P call)
 base_run P call (suc n) = one_more P (suc n) (base_run P call n)
 
+-- These are the prints of the run so far. A lost run has none.
+abbrev pub HasPrinted : Run → List ℤ → Type 0
+HasPrinted (Going printed c) prints = prints ≡ printed
+HasPrinted (Over printed end turns) prints = prints ≡ printed
+HasPrinted Lost prints = ⊥
+
 -- After n base turns the run has these prints and this memory, and goes on from this stack.
 pub record RunAt (P : Program) (call : Begun) (n : ℕ) (printed : List ℤ) (stack : Stack) (memory : List ℤ) : Type 0 where
   pub found : Stack

@@ -3,6 +3,7 @@
 
 pub mod calls;
 pub mod entry;
+pub mod laws;
 pub mod machine;
 #[cfg(test)]
 mod tests;

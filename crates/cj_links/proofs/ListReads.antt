@@ -1,30 +1,8 @@
--- Reads of lists that are written.
-use Rattle.std.proofs.Common.{◌≡◌, ◌≢◌, ℕ, zero, suc, ◌<◌, List, [], ◌∷◌, length, replicate, Some, refl, ap, ◌∙◌, arith}
-use Rattle.std.specs.Prelude.{slice_get, slice_set, Contains}
-use Rattle.std.proofs.lemmas.Option.{same_Some, none-some, slice_get_within, get_or_from_slice_get, slice_get-get_or}
-
-pub get-set_same : {X : Type 0} (xs : List X) (i : ℕ) (v : X) → i < length xs → slice_get (slice_set xs i v) i ≡ Some v
-get-set_same [] i v h = absurd (omega arith)
-get-set_same (x ∷ xs) zero v h = refl
-get-set_same (x ∷ xs) (suc i) v h = get-set_same xs i v (omega arith)
-
-pub get-set_other : {X : Type 0} (xs : List X) (i j : ℕ) (v : X) → j ≢ i → slice_get (slice_set xs i v) j ≡ slice_get xs j
-get-set_other [] i j v h = refl
-get-set_other (x ∷ xs) zero zero v h = absurd (h refl)
-get-set_other (x ∷ xs) zero (suc j) v h = refl
-get-set_other (x ∷ xs) (suc i) zero v h = refl
-get-set_other (x ∷ xs) (suc i) (suc j) v h = get-set_other xs i j v (λ e. h (ap suc e))
-
-pub get-replicate : {X : Type 0} (n k : ℕ) (v x : X) → slice_get (replicate n v) k ≡ Some x → v ≡ x
-get-replicate zero k v x e = absurd (none-some x e)
-get-replicate (suc n) zero v x e = same_Some v x e
-get-replicate (suc n) (suc k) v x e = get-replicate n k v x e
-
-pub contains-at : {X : Type 0} (xs : List X) (k : ℕ) (x : X) → slice_get xs k ≡ Some x → Contains xs x
-contains-at xs k x e = (k, slice_get_within xs k x e, get_or_from_slice_get xs k x x e)
-
-pub at-contains : {X : Type 0} (xs : List X) (x : X) (c : Contains xs x) → slice_get xs c.0 ≡ Some x
-at-contains xs x c = slice_get-get_or xs c.0 x c.1 ∙ ap Some c.2
+-- Lists with no item, and with one.
+use Rattle.std.proofs.Common.{◌≡◌, ◌<◌, [], ◌∷◌, ap, ◌∙◌, arith}
+use Rattle.std.specs.Prelude.{slice_get, Contains}
+use Rattle.std.proofs.lemmas.Option.{same_Some}
+use Rattle.cj_ir.proofs.ListReads.{at-contains}
 
 pub contains-none : {X : Type 0} (x : X) → Contains [] x → ⊥
 contains-none x c = let h : c.0 < 0 = c.1 in omega arith

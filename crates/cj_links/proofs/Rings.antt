@@ -9,7 +9,8 @@ use Rattle.std.proofs.lemmas.Bool.{cases_eq}
 use Rattle.cj_ir.specs.declared.language.Label.{Label}
 use Rattle.cj_links.specs.Waiting.{waiting, IsOrderly}
 use Rattle.cj_links.specs.Slots.{window, AreMarked, IsRing}
-use Rattle.cj_links.proofs.ListReads.{get-set_same, get-set_other, get-replicate, contains-at, contains-none, contains-one}
+use Rattle.cj_ir.proofs.ListReads.{get-set_same, get-set_other, get-replicate, contains-at}
+use Rattle.cj_links.proofs.ListReads.{contains-none, contains-one}
 use Rattle.cj_links.proofs.Marks.{count-none, count-set, count-unset, count-below}
 use Rattle.cj_links.proofs.Windows.{length-window, window_after_put, window_before_take, mod_within}
 

@@ -1,19 +1,8 @@
 -- Reads of lists that are written.
-use Rattle.std.proofs.Common.{◌≡◌, ◌≢◌, ℕ, zero, suc, ◌<◌, List, [], ◌∷◌, ◌++◌, length, get_or, replicate, Some, refl, sym, ap, ◌∙◌, arith}
-use Rattle.std.specs.Prelude.{slice_get, slice_set, Contains}
-use Rattle.std.proofs.lemmas.Option.{same_Some, none-some, slice_get_within, get_or_from_slice_get, slice_get-get_or}
-
-pub get-set_same : {X : Type 0} (xs : List X) (i : ℕ) (v : X) → i < length xs → slice_get (slice_set xs i v) i ≡ Some v
-get-set_same [] i v h = absurd (omega arith)
-get-set_same (x ∷ xs) zero v h = refl
-get-set_same (x ∷ xs) (suc i) v h = get-set_same xs i v (omega arith)
-
-pub get-set_other : {X : Type 0} (xs : List X) (i j : ℕ) (v : X) → j ≢ i → slice_get (slice_set xs i v) j ≡ slice_get xs j
-get-set_other [] i j v h = refl
-get-set_other (x ∷ xs) zero zero v h = absurd (h refl)
-get-set_other (x ∷ xs) zero (suc j) v h = refl
-get-set_other (x ∷ xs) (suc i) zero v h = refl
-get-set_other (x ∷ xs) (suc i) (suc j) v h = get-set_other xs i j v (λ e. h (ap suc e))
+use Rattle.std.proofs.Common.{◌≡◌, ℕ, zero, suc, ◌<◌, List, [], ◌∷◌, ◌++◌, length, get_or, Some, refl, sym, ap, ◌∙◌}
+use Rattle.std.specs.Prelude.{slice_get}
+use Rattle.std.proofs.lemmas.Option.{none-some, slice_get-get_or}
+pub use Rattle.cj_ir.proofs.ListReads.{get-set_same, get-set_other, get-replicate, contains-at, at-contains}
 
 pub get-append_left : {X : Type 0} (xs ys : List X) (k : ℕ) (x : X) → slice_get xs k ≡ Some x → slice_get (xs ++ ys) k ≡ Some x
 get-append_left [] ys k x e = absurd (none-some x e)
@@ -23,17 +12,6 @@ get-append_left (y ∷ xs) ys (suc k) x e = get-append_left xs ys k x e
 pub get-append_end : {X : Type 0} (xs : List X) (x : X) → slice_get (xs ++ x ∷ []) (length xs) ≡ Some x
 get-append_end [] x = refl
 get-append_end (y ∷ xs) x = get-append_end xs x
-
-pub get-replicate : {X : Type 0} (n k : ℕ) (v x : X) → slice_get (replicate n v) k ≡ Some x → v ≡ x
-get-replicate zero k v x e = absurd (none-some x e)
-get-replicate (suc n) zero v x e = same_Some v x e
-get-replicate (suc n) (suc k) v x e = get-replicate n k v x e
-
-pub contains-at : {X : Type 0} (xs : List X) (k : ℕ) (x : X) → slice_get xs k ≡ Some x → Contains xs x
-contains-at xs k x e = (k, slice_get_within xs k x e, get_or_from_slice_get xs k x x e)
-
-pub at-contains : {X : Type 0} (xs : List X) (x : X) (c : Contains xs x) → slice_get xs c.0 ≡ Some x
-at-contains xs x c = slice_get-get_or xs c.0 x c.1 ∙ ap Some c.2
 
 -- an item that is read in a list that equals this one
 pub get-read : {X : Type 0} (xs ys : List X) (i : ℕ) (x : X) → ys ≡ xs → i < length xs → x ≡ get_or ys i x → slice_get xs i ≡ Some x

@@ -5,7 +5,6 @@ pub mod Finding
 pub mod Steps
 pub mod Reporting
 pub mod Changing
-pub mod Zips
 pub mod Playing
 pub mod Uniqueness
 pub mod Answering

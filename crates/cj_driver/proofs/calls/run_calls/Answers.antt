@@ -1,5 +1,5 @@
 use Rattle.cj_driver.specs.Calls.{IsReportOf}
-use Rattle.cj_driver.proofs.Zips.{AllZip-more}
+use Rattle.cj_ir.proofs.Zips.{AllZip-more}
 use Rattle.cj_driver.proofs.calls.run_calls.Goals as goal
 
 pub loop-call-preserved : goal.loop-call-preserved

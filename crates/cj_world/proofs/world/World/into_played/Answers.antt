@@ -6,7 +6,7 @@ use Rattle.cj_world.specs.declared.runs.Run.{Run}
 use Rattle.cj_world.specs.Worlds.{codes_in}
 use Rattle.cj_world.specs.Caches.{made_in}
 use Rattle.cj_world.specs.Running.{Fits, IsToldOf}
-use Rattle.cj_world.proofs.Zips.{AllZip-more}
+use Rattle.cj_ir.proofs.Zips.{AllZip-more}
 use Rattle.cj_world.proofs.world.World.into_played.Goals as goal
 
 pub loop-run-preserved : goal.loop-run-preserved
