@@ -16,7 +16,7 @@ use Rattle.cj_tokens.specs.declared.refusal.Refused.{Refused}
 use Rattle.cj_tokens.specs.declared.terminal.Terminal.TheVariants as terminal
 use Rattle.cj_grammar.specs.Grammar.{Tree, Leaf, leaves}
 use Rattle.cj_grammar.specs.Reading.{offends_if, each_offends}
-use Rattle.cj_grammar.specs.Rules.{one, ◌▸◌, begun}
+use Rattle.cj_grammar.specs.Rules.{one, ◌▸◌, begun, numbers}
 use Rattle.cj_script.specs.Fitting.{FitsCall}
 use Rattle.cj_script.specs.Meaning.{out_of_range, function_offences, id_named, callee_offences, limit_offences, begun_offences, begun_of, limit_of}
 use Rattle.cj_script.proofs.BegunReads.{begun_reads}
@@ -25,7 +25,7 @@ use Rattle.cj_script.proofs.ScriptFits.{begun_fits}
 use Rattle.cj_events.specs.declared.events.Event.{Event}
 use Rattle.cj_events.specs.Fitting.{FitsLabel, FitsLabels, FitsGuard, FitsGuards, FitsPass, FitsEvent, EachFits, FitsEvents}
 use Rattle.cj_events.specs.Meaning.{label_of, label_offences, listed_offences, labels_offences, labels_of, ninth_offences, guard_offences, guard_of, guards_offences, guards_of, pass_word_offences, anchors_offences, anchors_of, assume_offences, assume_of, delay_offences, delay_of, const_offences, const_of, inline_offences, inline_of, pass_offences, pass_of, passes_offences, passes_of, event_word_offences, run_offences, count_offences, begin_offences, begin_of, step_offences, step_of, compile_offences, compile_of, event_offences, event_of, events_offences, events_of, history_offences, history_of}
-use Rattle.cj_events.specs.Rules.{more_labels, labels, equation, guard, more_guards, guards, anchors_pass, assume_pass, delay_pass, const_pass, inline_pass, any_pass, passes, begin_event, step_event, compile_event, event, events, history}
+use Rattle.cj_events.specs.Rules.{labels, equation, guard, more_guards, guards, anchors_pass, assume_pass, delay_pass, const_pass, inline_pass, any_pass, passes, begin_event, step_event, compile_event, event, events, history}
 use Rattle.cj_events.specs.Tallies.{runs, limits, counts, compiles, tally_of, counted, IsWithin}
 use Rattle.cj_events.proofs.Tallied.{tally_more}
 
@@ -70,7 +70,7 @@ labels_keep earlier t p h =
     one_more FitsLabel 64 earlier (label_of t.token) p (room 64 (length earlier) t.token both.0) (label_fits t.token both.1)
 
 labels_fit : (t : Tree labels) → labels_offences t ≡ [] → FitsLabels (labels_of t)
-unfolding labels more_labels labels_offences labels_of
+unfolding labels numbers labels_offences labels_of
 labels_fit (first, more) h =
     let all : Few FitsLabel 64 (map (λ t. label_of t.token) (first ∷ more)) =
     each_keeps (Few FitsLabel 64) (λ earlier t. listed_offences (length earlier) t.token) (λ t. label_of t.token) labels_keep [] (first ∷ more) (none FitsLabel 64) h in

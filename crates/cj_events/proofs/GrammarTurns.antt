@@ -1,29 +1,13 @@
 -- The loops of the grammar of replays, turn by turn: one part more, or none; and a part takes tokens.
 use Rattle.std.proofs.Common.{◌≡◌, ◌<◌, true, false, List, length, Ok, refl}
-use Rattle.cj_tokens.specs.Lexemes.{Lexeme, Sign, Is, front, is_terminal}
-use Rattle.cj_tokens.specs.declared.terminal.Terminal.TheVariants.{Comma, Number, End}
-use Rattle.cj_grammar.specs.Grammar.{has, is_next, starts, ◌>>=◌, eat}
+use Rattle.cj_tokens.specs.Lexemes.{Lexeme, front, is_terminal}
+use Rattle.cj_tokens.specs.declared.terminal.Terminal.TheVariants.{Comma}
+use Rattle.cj_grammar.specs.Grammar.{starts, ◌>>=◌, eat}
 use Rattle.cj_grammar.specs.Rules.{one, ◌▸◌}
-use Rattle.cj_grammar.proofs.Ahead.{ahead, begun_by, not_begun_by}
+use Rattle.cj_grammar.proofs.Ahead.{begun_by, not_begun_by}
 use Rattle.cj_grammar.proofs.Begins.{shorter}
 use Rattle.cj_grammar.proofs.Repeats.{many_goes, many_stops}
-use Rattle.cj_grammar.proofs.Signs.{fits_one}
-use Rattle.cj_events.specs.Rules.{more_labels, guard, more_guards, anchors_pass, assume_pass, delay_pass, const_pass, inline_pass, any_pass, passes, begin_event, step_event, compile_event, event, events}
-
--- the next token says whether a rule begins that begins with no end
-pub begins : (signs : List Sign) (ts : List Lexeme) → has signs (Is End) ≡ false → is_next signs ts ≡ fits_one signs (front ts)
-begins signs ts h = ahead signs ts h
-
-pub more_labels_go : (a : List Lexeme) → is_terminal Number (front a) ≡ true → eat more_labels a ≡ (eat (one Number) a >>= eat more_labels)
-unfolding more_labels
-more_labels_go a k = many_goes (one Number) a refl (begun_by Number a refl k)
-
-pub more_labels_stop : (a : List Lexeme) → is_terminal Number (front a) ≡ false → eat more_labels a ≡ Ok a
-unfolding more_labels
-more_labels_stop a k = many_stops (one Number) a refl (not_begun_by Number a refl k)
-
-pub label_shorter : (a b : List Lexeme) → eat (one Number) a ≡ Ok b → length b < length a
-label_shorter a b h = shorter (one Number) a b refl h
+use Rattle.cj_events.specs.Rules.{guard, more_guards, anchors_pass, assume_pass, delay_pass, const_pass, inline_pass, any_pass, passes, begin_event, step_event, compile_event, event, events}
 
 pub more_guards_go : (a : List Lexeme) → is_terminal Comma (front a) ≡ true → eat more_guards a ≡ (eat (one Comma ▸ guard) a >>= eat more_guards)
 unfolding more_guards

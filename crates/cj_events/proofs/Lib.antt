@@ -12,5 +12,4 @@ mod ManyReads
 mod PassReads
 mod EventReads
 mod FineEvents
-mod Readings
 mod ReplayReads

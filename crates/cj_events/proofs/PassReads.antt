@@ -12,13 +12,13 @@ use Rattle.cj_tokens.specs.declared.refusal.Refused.{Refused}
 use Rattle.cj_tokens.specs.declared.terminal.Terminal.TheVariants as terminal
 use Rattle.cj_grammar.specs.Grammar.{Tree, Leaf, leaves}
 use Rattle.cj_grammar.specs.Reading.{reads, each_offends}
-use Rattle.cj_grammar.specs.Rules.{one, ◌▸◌}
+use Rattle.cj_grammar.specs.Rules.{one, ◌▸◌, numbers}
 use Rattle.cj_grammar.proofs.ReadsLaws.{reads_then, reads_last}
 use Rattle.cj_script.proofs.BegunReads.{judged_then, judged_last, other_terminal}
 use Rattle.cj_script.proofs.Turns.{all_reads}
 use Rattle.cj_events.specs.Meaning.{label_of, label_offences, listed_offences, labels_offences, labels_of, register_of, ninth_offences, register_offences, guard_offences, guard_of, guards_offences, guards_of, pass_word_offences, anchors_offences, anchors_of, assume_offences, assume_of, delay_offences, delay_of, const_offences, const_of, inline_offences, inline_of, pass_offences, pass_of, passes_offences, passes_of}
 use Rattle.cj_events.specs.Reading.{is_number, label_at, next_label, labels_at, is_comma, never_at, equation_at, guard_at, next_guard, more_guards_at, guards_at, is_pass, anchors_at, assume_at, delay_at, inline_at, any_pass_at, pass_at, next_pass, passes_at}
-use Rattle.cj_events.specs.Rules.{more_labels, labels, equation, guard, more_guards, guards, anchors_pass, assume_pass, delay_pass, const_pass, inline_pass, any_pass, passes}
+use Rattle.cj_events.specs.Rules.{labels, equation, guard, more_guards, guards, anchors_pass, assume_pass, delay_pass, const_pass, inline_pass, any_pass, passes}
 use Rattle.cj_events.proofs.GuardTurns as guard_turns
 use Rattle.cj_events.proofs.LabelTurns as label_turns
 use Rattle.cj_events.proofs.PassTurns as pass_turns
@@ -32,7 +32,7 @@ listed_reads earlier t ts =
     (t.is, judged_last (listed_offences (length earlier) t.token) (label_of t.token) (label_of t.token) ts _ refl)
 
 pub labels_read : (t : Tree labels) (ts : List Lexeme) → is_number ts ≡ false → labels_at [] (leaves labels t ++ ts) ≡ reads (labels_offences t) (labels_of t) ts
-unfolding labels more_labels labels_at labels_offences labels_of front
+unfolding labels numbers labels_at labels_offences labels_of front
 labels_read (first, more) ts h =
     all_reads is_number next_label refl label_turns.next_shorter (leaves (one terminal.Number)) (λ earlier t. listed_offences (length earlier) t.token) (λ t. label_of t.token) [] (first ∷ more) ts listed_reads h
 

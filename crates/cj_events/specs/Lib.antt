@@ -3,5 +3,4 @@ pub mod Tallies
 pub mod Meaning
 pub mod Fitting
 pub mod Reading
-pub mod Readings
 pub mod Replays

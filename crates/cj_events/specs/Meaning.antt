@@ -17,9 +17,10 @@ use Rattle.cj_tokens.specs.declared.refusal.Refused.{Refused}
 use Rattle.cj_grammar.specs.Grammar.{Tree}
 use Rattle.cj_grammar.specs.Reading.{offends_if, highest, each_offends}
 use Rattle.cj_script.specs.Meaning.{out_of_range, limit_offences, function_offences, id_named, begun_offences, begun_of}
+use Rattle.cj_grammar.specs.Rules.{numbers}
 use Rattle.cj_events.specs.declared.events.Event.{Event}
 use Rattle.cj_events.specs.declared.events.Event.TheVariants.{Begin, Step, Compile}
-use Rattle.cj_events.specs.Rules.{more_labels, labels, equation, guard, more_guards, guards, anchors_pass, assume_pass, delay_pass, const_pass, inline_pass, any_pass, passes, begin_event, step_event, compile_event, event, events, history}
+use Rattle.cj_events.specs.Rules.{labels, equation, guard, more_guards, guards, anchors_pass, assume_pass, delay_pass, const_pass, inline_pass, any_pass, passes, begin_event, step_event, compile_event, event, events, history}
 use Rattle.cj_events.specs.Tallies.{runs, limits, counts, compiles}
 
 -- ---- labels of drafts
@@ -35,12 +36,12 @@ abbrev pub listed_offences : ℕ → Lexeme → List Refused
 listed_offences earlier t = highest (offends_if (nat_le 64 earlier) t TooMany ++ label_offences t)
 
 unfoldable pub labels_offences : Tree labels → List Refused
-unfolding labels more_labels
+unfolding labels numbers
 labels_offences (first, more) =
     each_offends (λ earlier t. listed_offences (length earlier) t.token) (λ t. label_of t.token) [] (first ∷ more)
 
 unfoldable pub labels_of : Tree labels → List Label
-unfolding labels more_labels
+unfolding labels numbers
 labels_of (first, more) = map (λ t. label_of t.token) (first ∷ more)
 
 -- ---- guards

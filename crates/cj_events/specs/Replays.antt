@@ -9,7 +9,7 @@ use Rattle.cj_grammar.specs.Grammar.{Tree}
 use Rattle.cj_reader.specs.Meaning.{program_offences, program_of}
 use Rattle.cj_events.specs.declared.events.Event.{Event}
 use Rattle.cj_events.specs.Meaning.{history_offences, history_of}
-use Rattle.cj_events.specs.Readings.{Reads, IsAnswer}
+use Rattle.cj_grammar.specs.Sentences.{Reads, IsAnswer}
 use Rattle.cj_events.specs.Rules.{replay}
 
 -- a program and its events

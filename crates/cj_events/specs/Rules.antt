@@ -1,15 +1,12 @@
 -- The grammar of replays: functions, the word `events`, the events, and the end of the input.
 use Rattle.cj_tokens.specs.declared.terminal.Terminal.TheVariants as terminal
 use Rattle.cj_grammar.specs.Grammar.{Rule, many}
-use Rattle.cj_grammar.specs.Rules.{one, ◌▸◌, ◌∣◌, funs, begun}
+use Rattle.cj_grammar.specs.Rules.{one, ◌▸◌, ◌∣◌, funs, numbers, begun}
 
 -- ---- passes
 
-unfoldable pub more_labels : Rule
-more_labels = many (one terminal.Number)
-
 unfoldable pub labels : Rule
-labels = one terminal.Number ▸ more_labels
+labels = one terminal.Number ▸ numbers
 
 -- a register and the value that it has to have
 unfoldable pub equation : Rule

@@ -40,7 +40,7 @@ fn pass_compile(tokens: &mut Tokens<'_>) -> Result<(), Unfit>
     tokens.expect(Terminal::CloseBrace)
 }
 
-#[tactic(auto, using(crate::proofs::GrammarTurns::begins), unfolding(crate::specs::Rules::event, crate::specs::Rules::begin_event, crate::specs::Rules::step_event, crate::specs::Rules::compile_event))]
+#[tactic(auto, using(cj_grammar::proofs::Ahead::ahead), unfolding(crate::specs::Rules::event, crate::specs::Rules::begin_event, crate::specs::Rules::step_event, crate::specs::Rules::compile_event))]
 fn begins_event(tokens: &Tokens<'_>) -> bool
     ensures { result ≡ starts event (left tokens.now) }
 {
@@ -50,7 +50,7 @@ fn begins_event(tokens: &Tokens<'_>) -> bool
     )
 }
 
-#[tactic(auto, using(crate::proofs::GrammarTurns::begins), unfolding(crate::specs::Rules::event, crate::specs::Rules::begin_event, crate::specs::Rules::step_event, crate::specs::Rules::compile_event))]
+#[tactic(auto, using(cj_grammar::proofs::Ahead::ahead), unfolding(crate::specs::Rules::event, crate::specs::Rules::begin_event, crate::specs::Rules::step_event, crate::specs::Rules::compile_event))]
 fn pass_event(tokens: &mut Tokens<'_>) -> Result<(), Unfit>
     ensures { eat event (left tokens.old) ≡ ended result (left tokens.new) }
 {

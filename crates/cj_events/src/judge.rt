@@ -24,11 +24,8 @@ pub fn refused(token: Lexeme<'_>, kind: Kind) -> ParseError
 pub fn draft_label(token: Lexeme<'_>) -> Result<Label, ParseError>
     ensures { Found result (judged (label_offences (seen token.entry)) (label_of (seen token.entry))) }
 {
-    if 0 <= token.number && token.number <= 511 {
-        Ok(Label(token.number as u32))
-    } else {
-        Err(refused(token, Kind::Range))
-    }
+    let number = number_within(token, 0, 511)?;
+    Ok(Label(number))
 }
 
 /// A label of a list, behind so many others.
@@ -44,11 +41,8 @@ pub fn listed_label(earlier: usize, token: Lexeme<'_>) -> Result<Label, ParseErr
 fn register(token: Lexeme<'_>) -> Result<Reg, ParseError>
     ensures { Found result (judged (out_of_range (pos 0) (pos 127) (seen token.entry)) (register_of (seen token.entry))) }
 {
-    if 0 <= token.number && token.number <= 127 {
-        Ok(Reg(token.number as u32))
-    } else {
-        Err(refused(token, Kind::Range))
-    }
+    let number = number_within(token, 0, 127)?;
+    Ok(Reg(number))
 }
 
 /// The register of a guard behind so many others.

@@ -10,7 +10,7 @@ ghost use Rattle.cj_events.specs.Rules.{labels, equation, guard, guards, anchors
 
 use cj_tokens::{Terminal, Tokens, Unfit};
 
-#[tactic(auto, using(crate::proofs::GrammarTurns::more_labels_go, crate::proofs::GrammarTurns::more_labels_stop, crate::proofs::GrammarTurns::label_shorter), unfolding(crate::specs::Rules::labels))]
+#[tactic(auto, using(cj_grammar::proofs::Turns::numbers_go, cj_grammar::proofs::Turns::numbers_stop, cj_grammar::proofs::Turns::number_shorter), unfolding(crate::specs::Rules::labels))]
 fn pass_labels(tokens: &mut Tokens<'_>) -> Result<(), Unfit>
     ensures { eat labels (left tokens.old) ≡ ended result (left tokens.new) }
 {
@@ -30,7 +30,7 @@ fn pass_equation(tokens: &mut Tokens<'_>) -> Result<(), Unfit>
     tokens.expect(Terminal::Number)
 }
 
-#[tactic(auto, using(crate::proofs::GrammarTurns::begins), unfolding(crate::specs::Rules::guard, crate::specs::Rules::equation))]
+#[tactic(auto, using(cj_grammar::proofs::Ahead::ahead), unfolding(crate::specs::Rules::guard, crate::specs::Rules::equation))]
 fn pass_guard(tokens: &mut Tokens<'_>) -> Result<(), Unfit>
     ensures { eat guard (left tokens.old) ≡ ended result (left tokens.new) }
 {
@@ -93,7 +93,7 @@ fn pass_inline(tokens: &mut Tokens<'_>) -> Result<(), Unfit>
     tokens.expect(Terminal::Number)
 }
 
-#[tactic(auto, using(crate::proofs::GrammarTurns::begins), unfolding(crate::specs::Rules::any_pass, crate::specs::Rules::anchors_pass, crate::specs::Rules::assume_pass, crate::specs::Rules::delay_pass, crate::specs::Rules::const_pass, crate::specs::Rules::inline_pass))]
+#[tactic(auto, using(cj_grammar::proofs::Ahead::ahead), unfolding(crate::specs::Rules::any_pass, crate::specs::Rules::anchors_pass, crate::specs::Rules::assume_pass, crate::specs::Rules::delay_pass, crate::specs::Rules::const_pass, crate::specs::Rules::inline_pass))]
 fn begins_pass(tokens: &Tokens<'_>) -> bool
     ensures { result ≡ starts any_pass (left tokens.now) }
 {
@@ -103,7 +103,7 @@ fn begins_pass(tokens: &Tokens<'_>) -> bool
     )
 }
 
-#[tactic(auto, using(crate::proofs::GrammarTurns::begins), unfolding(crate::specs::Rules::any_pass, crate::specs::Rules::anchors_pass, crate::specs::Rules::assume_pass, crate::specs::Rules::delay_pass, crate::specs::Rules::const_pass, crate::specs::Rules::inline_pass))]
+#[tactic(auto, using(cj_grammar::proofs::Ahead::ahead), unfolding(crate::specs::Rules::any_pass, crate::specs::Rules::anchors_pass, crate::specs::Rules::assume_pass, crate::specs::Rules::delay_pass, crate::specs::Rules::const_pass, crate::specs::Rules::inline_pass))]
 fn pass_any(tokens: &mut Tokens<'_>) -> Result<(), Unfit>
     ensures { eat any_pass (left tokens.old) ≡ ended result (left tokens.new) }
 {

@@ -9,7 +9,7 @@ ghost use Rattle.cj_grammar.specs.Reading.{Gives, reads};
 ghost use Rattle.cj_events.specs.Fitting.{FitsEvents};
 ghost use Rattle.cj_events.specs.Meaning.{history_offences, history_of};
 ghost use Rattle.cj_events.specs.Reading.{history_at};
-ghost use Rattle.cj_events.specs.Readings.{Agrees};
+ghost use Rattle.cj_grammar.specs.Sentences.{Agrees};
 ghost use Rattle.cj_events.specs.Replays.{replay_offences, replay_of, ReadsReplay, IsReplayError, IsOnlyReplay};
 ghost use Rattle.cj_events.specs.Rules.{history, replay};
 

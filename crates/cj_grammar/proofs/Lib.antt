@@ -12,3 +12,4 @@ pub mod Ahead
 pub mod Turns
 pub mod ClassOne
 pub mod ShapesLaws
+pub mod SentenceLaws

@@ -5,3 +5,4 @@ pub mod Plain
 pub mod Reading
 pub mod Offences
 pub mod Shapes
+pub mod Sentences

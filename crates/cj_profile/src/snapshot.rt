@@ -39,7 +39,7 @@ pub struct Snapshot {
 
 impl Profile {
     ghost use Rattle.cj_profile.specs.Seats.{program_of, Belongs, IsSame, Adds, AddsPart};
-    ghost use Rattle.cj_profile.specs.Snapshots.{param_loads, edge_loads, snapshot_loads, FitsFunction};
+    ghost use Rattle.cj_profile.specs.Snapshots.{param_loads, edge_loads, each_loads, snapshot_loads, FitsFunction};
 
     /// What the words of a function say, each loaded once, in the order of their numbers. The fields are the values found.
     /// Where there is no memory some of these words were loaded, and nothing else was done.
@@ -82,7 +82,7 @@ impl Profile {
         ensures own { Belongs self.now seat.new }
         ensures same { IsSame seat.old seat.new }
         ensures count { IfOk result (λ notes. length notes ≡ count) }
-        ensures reads { IfOk result (λ notes. Adds (param_loads f 0 notes) seat.old seat.new) }
+        ensures reads { IfOk result (λ notes. Adds (each_loads (param_loads f) 0 notes) seat.old seat.new) }
         ensures loads { AddsPart (All Keeps) seat.old seat.new }
     {
         let mut notes = ParamNotes::new(alloc);
@@ -98,7 +98,7 @@ impl Profile {
         requires param { param < param_count (program_of self.now) f }
         ensures own { Belongs self.now seat.new }
         ensures same { IsSame seat.old seat.new }
-        ensures reads { Adds (param_loads f param (result ∷ [])) seat.old seat.new }
+        ensures reads { Adds (param_loads f param result) seat.old seat.new }
     {
         let function = f;
         let last = self.load(seat, Word::Last { function, param });
@@ -121,7 +121,7 @@ impl Profile {
         ensures own { Belongs self.now seat.new }
         ensures same { IsSame seat.old seat.new }
         ensures count { IfOk result (λ notes. length notes ≡ count) }
-        ensures reads { IfOk result (λ notes. Adds (edge_loads f 0 notes) seat.old seat.new) }
+        ensures reads { IfOk result (λ notes. Adds (each_loads (edge_loads f) 0 notes) seat.old seat.new) }
         ensures loads { AddsPart (All Keeps) seat.old seat.new }
     {
         let mut notes = EdgeNotes::new(alloc);
@@ -137,7 +137,7 @@ impl Profile {
         requires label { label.0 < label_count (program_of self.now) f }
         ensures own { Belongs self.now seat.new }
         ensures same { IsSame seat.old seat.new }
-        ensures reads { Adds (edge_loads f label.0 (result ∷ [])) seat.old seat.new }
+        ensures reads { Adds (edge_loads f label.0 result) seat.old seat.new }
     {
         let then_count = self.edge_count(seat, f, label, Edge::Then);
         let else_count = self.edge_count(seat, f, label, Edge::Else);

@@ -4,9 +4,10 @@ ghost use Rattle.std.specs.Prelude.{◌≡◌, Ok, Err, IfOk, IfErr, List, ℕ};
 ghost use Rattle.cj_tokens.specs.Left.{left};
 ghost use Rattle.cj_grammar.specs.Grammar.{Tree, leaves, IsSentence};
 ghost use Rattle.cj_grammar.specs.Rules.{input};
+ghost use Rattle.cj_grammar.specs.Sentences.{Agrees};
 ghost use Rattle.cj_script.specs.Fitting.{FitsScript};
 ghost use Rattle.cj_text.specs.Reads.{Reads, input_offences, input_of};
-ghost use Rattle.cj_text.specs.Answers.{IsParseError, IsOnlyReading, Agrees};
+ghost use Rattle.cj_text.specs.Answers.{IsParseError, IsOnlyReading};
 
 use cj_grammar::fits_input;
 use cj_ir::Input;
