@@ -1,14 +1,15 @@
 -- A fresh Anchor before a label keeps that a code is sound.
-use Rattle.std.proofs.Common.{◌≡◌, ◌≢◌, ℕ, ◌+◌, ◌<◌, ◌≤◌, ◌⊎◌, List, [], ◌∷◌, ◌++◌, length, map, Option, Some, None, refl, sym, ap, ◌∙◌, subst, inl, inr, ⊎_elim, arith, length-append, eq-eqb}
-use Rattle.std.specs.Prelude.{ℤ, slice_get, slice_set, Contains}
+use Rattle.std.proofs.Common.{◌≡◌, ◌≢◌, ℕ, ◌+◌, ◌<◌, ◌≤◌, ◌⊎◌, List, [], ◌∷◌, ◌++◌, length, map, Option, Some, None, refl, sym, ap, ◌∙◌, subst, inl, inr, ⊎_elim, arith, length-append}
+use Rattle.std.specs.Prelude.{ℤ, slice_get, slice_set}
 use Rattle.std.specs.Option.{option_map}
 use Rattle.std.proofs.lemmas.Option.{same_Some, none-some, slice_get-map, slice_get_within, slice_get_past}
 use Rattle.std.proofs.lemmas.List.{length-map}
-use Rattle.std.proofs.lemmas.List.Elements.{Contains-append_left, Contains-append_right, Contains-append_cases, All-contains}
+use Rattle.std.proofs.lemmas.List.Elements.{All-contains}
 use Rattle.std.proofs.lemmas.Bool.{cases_eq}
 use Rattle.cj_ir.specs.declared.language.FunId.{FunId}
 use Rattle.cj_ir.specs.declared.language.Label.{Label}
 use Rattle.cj_ir.specs.declared.language.Program.{Program}
+use Rattle.cj_ir.proofs.Labels.{label_cases}
 use Rattle.cj_base.specs.Machine.{Stack, On, Calls, Returns, Faults}
 use Rattle.cj_draft.specs.declared.facts.Fact.{Fact}
 use Rattle.cj_draft.specs.declared.code.Back.{Back}
@@ -19,21 +20,23 @@ use Rattle.cj_draft.specs.Effects.{VersionEffect, Plain, Guarded, version_effect
 use Rattle.cj_draft.specs.WellNamed.{WellNamed, IsPlaceFine, IsBackFine}
 use Rattle.cj_draft.specs.Arrives.{place_at, Arrives}
 use Rattle.cj_draft.specs.Sound.{Sound, pair_of, IsOwn, guard_next, RowWithin}
-use Rattle.cj_draft.proofs.Lists.{at_index, all_at, all_from}
+use Rattle.cj_draft.proofs.Lists.{at_index, all_from, fine_of}
 use Rattle.cj_draft.proofs.Insert.{IsKept, IsInserted, NewOn, inserted_sound}
 use Rattle.cj_draft.proofs.Rows.{guard_next-relabel, rows_inserted}
+use Rattle.cj_draft.specs.Edges.{fresh_label, led_to}
+use Rattle.cj_draft.proofs.EdgeLemmas.{led-same, led-other, relabel_fine, guard_successor}
 use Rattle.cj_anchor.specs.Lowering.{led_place}
 use Rattle.cj_anchor.specs.Search.{IsClosed}
 use Rattle.cj_rows.specs.Rows.{guard_in, guard_at, fresh_row}
-use Rattle.cj_anchor.specs.AnchorInsertion.{offence_at, anchor_offence, if_label, to_anchor, AreWith, anchor_place, fresh_label, anchored}
-use Rattle.cj_rows.proofs.ListReads.{get-append_left, get-append_end, contains-at, at-contains}
-use Rattle.cj_anchor.proofs.Closed.{relabel_fine, named_closed}
+use Rattle.cj_anchor.specs.AnchorInsertion.{offence_at, anchor_offence, anchor_place, anchored}
+use Rattle.cj_rows.proofs.ListReads.{get-append_left, get-append_end, contains-at}
+use Rattle.cj_anchor.proofs.Closed.{named_closed}
 use Rattle.cj_anchor.proofs.Passing.{next_within}
-use Rattle.cj_anchor.proofs.LoweringSound.{guard_is_successor}
-use Rattle.cj_rows.proofs.GuardRows.{differ-eqb}
-use Rattle.cj_rows.proofs.RowLemmas.{has_guard, guard_place, label_cases}
+use Rattle.cj_rows.proofs.RowLemmas.{has_guard, guard_place}
 use Rattle.cj_rows.proofs.InsertedRows.{HasGuardsOf, rows_through}
 use Rattle.cj_rows.proofs.Room as room
+use Rattle.cj_rows.specs.Pairs.{AreWith}
+use Rattle.cj_rows.proofs.WithPairs.{with_old, with_new, with_only}
 
 -- ---- the conditions that no offence leaves
 
@@ -43,39 +46,7 @@ has_room code l p at none = room.has_room (fresh_row code l) (length code.places
 
 -- ---- where edges go
 
-pub to_anchor-same : (l a x : Label) → x ≡ l → to_anchor l a x ≡ a
-unfolding to_anchor if_label
-to_anchor-same l a x e = ap (λ b. if_label b a x) (eq-eqb x.0 l.0 (ap (λ (y : Label). y.0) e))
-
-pub to_anchor-other : (l a x : Label) → x ≢ l → to_anchor l a x ≡ x
-unfolding to_anchor if_label
-to_anchor-other l a x ne = ap (λ b. if_label b a x) (differ-eqb x.0 l.0 (λ e. ne (same_label x l e)))
-  where
-    same_label : (x y : Label) → x.0 ≡ y.0 → x ≡ y
-    same_label x y e = ap label e
-      where
-        label : ℕ → Label
-        label n = record { 0 = n }
-
 -- ---- pairs
-
-pub with_old : (backs : List Back) (pair : Back) (all : List Back) → AreWith backs pair all → (q : Back) → Contains backs q → Contains all q
-with_old backs pair all w q c = ⊎_elim
-    (λ has. subst (λ qs. Contains qs q) (sym has.1) c)
-    (λ has. subst (λ qs. Contains qs q) (sym has.1) (Contains-append_left backs (pair ∷ []) q c)) w
-
-pub with_new : (backs : List Back) (pair : Back) (all : List Back) → AreWith backs pair all → Contains all pair
-with_new backs pair all w = ⊎_elim
-    (λ has. subst (λ qs. Contains qs pair) (sym has.1) has.0)
-    (λ has. subst (λ qs. Contains qs pair) (sym has.1) (Contains-append_right backs (pair ∷ []) pair (0, omega arith, refl))) w
-
-one_back : (p q : Back) → Contains (p ∷ []) q → p ≡ q
-one_back p q c = let h : c.0 < 1 = c.1 in let z : 0 ≡ c.0 = omega arith in same_Some p q (ap (slice_get (p ∷ [])) z ∙ at-contains (p ∷ []) q c)
-
-pub with_only : (backs : List Back) (pair : Back) (all : List Back) → AreWith backs pair all → (q : Back) → Contains all q → Contains backs q ⊎ (q ≡ pair)
-with_only backs pair all w q c = ⊎_elim
-    (λ has. inl (subst (λ qs. Contains qs q) has.1 c))
-    (λ has. ⊎_elim (λ old. inl old) (λ new. inr (sym (one_back pair q new))) (Contains-append_cases backs (pair ∷ []) q (subst (λ qs. Contains qs q) has.1 c))) w
 
 module _ (P : Program) (context : List Fact) (f : FunId) (code : Code) (l : Label) (place : Place) (backs : List Back)
     (at_l : place_at code l ≡ Some place) (own : AreWith place.backs (pair_of 0 place.point) backs)
@@ -84,7 +55,7 @@ module _ (P : Program) (context : List Fact) (f : FunId) (code : Code) (l : Labe
   a = fresh_label code
 
   r : Label → Label
-  r = to_anchor l (fresh_label code)
+  r = led_to l (fresh_label code)
 
   code' : Code
   code' = anchored code l place backs
@@ -120,7 +91,7 @@ module _ (P : Program) (context : List Fact) (f : FunId) (code : Code) (l : Labe
 
   length-new : length code'.places ≡ length code.places + 1
   unfolding code' anchored
-  length-new = length-append (map (led_place (to_anchor l (fresh_label code))) code.places) (anchor_place l place backs ∷ []) ∙ ap (λ k. k + 1) (length-map code.places (led_place (to_anchor l (fresh_label code))))
+  length-new = length-append (map (led_place (led_to l (fresh_label code))) code.places) (anchor_place l place backs ∷ []) ∙ ap (λ k. k + 1) (length-map code.places (led_place (led_to l (fresh_label code))))
 
   as_kept : (x : Label) (p : Place) → IsKept r (New x) p (led_place r p)
   unfolding led_place
@@ -152,7 +123,7 @@ module _ (P : Program) (context : List Fact) (f : FunId) (code : Code) (l : Labe
     function = refl;
     regs = refl;
     entry = refl;
-    leads = λ x. ⊎_elim (λ e. inl (e, to_anchor-same l (fresh_label code) x e)) (λ ne. inr (to_anchor-other l (fresh_label code) x ne)) (label_cases x l);
+    leads = λ x. ⊎_elim (λ e. inl (e, led-same l (fresh_label code) x e)) (λ ne. inr (led-other l (fresh_label code) x ne)) (label_cases x l);
     kept = λ x p at. (led_place r p, old_at x p at, as_kept x p);
     back = λ x p' at. ⊎_elim (λ e. inl e) (λ w. inr (w.0, w.1, subst (IsKept r (New x) w.0) w.2 (as_kept x w.0))) (was x p' at);
     place = place;
@@ -173,20 +144,17 @@ module _ (P : Program) (context : List Fact) (f : FunId) (code : Code) (l : Labe
 
   -- ---- names
 
-  fine_of : (x : Label) (p : Place) → place_at code x ≡ Some p → IsPlaceFine P code.regs (length code.places) p
-  fine_of x p at = all_at (IsPlaceFine P code.regs (length code.places)) code.places x.0 p sound.named.places at
-
   led_within : (y : Label) → y.0 < length code.places → (r y).0 < length code'.places
   unfolding r a fresh_label
   led_within y h = ⊎_elim
-      (λ e. subst (λ z. z.0 < length code'.places) (sym (to_anchor-same l (fresh_label code) y e)) (omega (arith, length-new, n-of_a)))
-      (λ ne. subst (λ z. z.0 < length code'.places) (sym (to_anchor-other l (fresh_label code) y ne)) (omega (arith, length-new)))
+      (λ e. subst (λ z. z.0 < length code'.places) (sym (led-same l (fresh_label code) y e)) (omega (arith, length-new, n-of_a)))
+      (λ ne. subst (λ z. z.0 < length code'.places) (sym (led-other l (fresh_label code) y ne)) (omega (arith, length-new)))
       (label_cases y l)
 
   led_fine : (x : Label) (p : Place) → place_at code x ≡ Some p → IsPlaceFine P code.regs (length code'.places) (led_place r p)
   unfolding led_place
   led_fine x p at =
-      let fine = fine_of x p at in
+      let fine = fine_of P code sound.named x p at in
       record {
         instr = relabel_fine P code.regs (length code.places) r (length code'.places) p.instr (λ y c. led_within y (next_within code x p y closed at c)) fine.instr;
         point = fine.point;
@@ -197,7 +165,7 @@ module _ (P : Program) (context : List Fact) (f : FunId) (code : Code) (l : Labe
   fresh_fine : IsPlaceFine P code.regs (length code'.places) fresh
   unfolding fresh anchor_place
   fresh_fine =
-      let fine = fine_of l place at_l in
+      let fine = fine_of P code sound.named l place at_l in
       record {
         instr = (omega arith, fine.point, omega (arith, length-new, l_within));
         point = fine.point;
@@ -258,11 +226,11 @@ module _ (P : Program) (context : List Fact) (f : FunId) (code : Code) (l : Labe
     old = guard_of_old;
     fresh = guard_of_fresh;
     none = no_guard_at_a;
-    to_l = to_anchor-same l (fresh_label code) l refl;
-    others = λ x ne. to_anchor-other l (fresh_label code) x ne;
+    to_l = led-same l (fresh_label code) l refl;
+    others = λ x ne. led-other l (fresh_label code) x ne;
     edges = λ x next e.
         let h = has_guard code x next e in
-        not_a next (next_within code x h.place next closed h.at (guard_is_successor h.place.instr next h.guard));
+        not_a next (next_within code x h.place next closed h.at (guard_successor h.place.instr next h.guard));
     apart = not_a l l_within;
   }
 
@@ -278,7 +246,7 @@ module _ (P : Program) (context : List Fact) (f : FunId) (code : Code) (l : Labe
   unfolding New r
   new_own next regs st arrives q new =
       let inside = slice_get_within code.places next.0 arrives.place arrives.at in
-      let is_l : next ≡ l = ⊎_elim (λ e. e) (λ ne. absurd (not_a next inside (sym (to_anchor-other l (fresh_label code) next ne) ∙ new.0))) (label_cases next l) in
+      let is_l : next ≡ l = ⊎_elim (λ e. e) (λ ne. absurd (not_a next inside (sym (led-other l (fresh_label code) next ne) ∙ new.0))) (label_cases next l) in
       let same : arrives.place ≡ place = same_Some arrives.place place (sym arrives.at ∙ ap (place_at code) is_l ∙ at_l) in
       subst (IsOwn P arrives.place regs) (sym new.1) (refl, ap (λ (p : Place). frames_of P p.point regs) (sym same))
 

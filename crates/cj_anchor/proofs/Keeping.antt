@@ -5,13 +5,14 @@ use Rattle.std.proofs.lemmas.List.{append-nil}
 use Rattle.std.proofs.lemmas.Option.{same_Some, none-some, slice_get-get_or}
 use Rattle.std.proofs.lemmas.List.Elements.{All-head, All-tail}
 use Rattle.cj_ir.specs.declared.language.Label.{Label}
+use Rattle.cj_ir.proofs.Marks.{count_marks, count-true, count-false}
 use Rattle.cj_draft.specs.declared.instructions.VInstr.{VInstr}
 use Rattle.cj_draft.specs.declared.instructions.VInstr.TheVariants.{Nop, Op, Move, Cond, Call, Return, Print, Load, Store, Fail, Assume, Anchor}
 use Rattle.cj_draft.specs.declared.code.Place.{Place}
 use Rattle.cj_draft.specs.Relabel.{relabel}
 use Rattle.cj_base.proofs.Lists.{reverse_last}
-use Rattle.cj_anchor.specs.Lowering.{successors, led_place, kept_of}
-use Rattle.cj_anchor.proofs.Marks.{count_kept, count-true, count-false}
+use Rattle.cj_draft.specs.Edges.{successors}
+use Rattle.cj_anchor.specs.Lowering.{led_place, kept_of}
 
 -- ---- one by one
 
@@ -69,14 +70,14 @@ kept_over f made kept rest e = ap (λ ks. made ++ map f (kept_of ks rest)) e ∙
 -- ---- where they stand
 
 -- a kept item stands at the number of kept ones before it
-pub kept_at : {X : Type 0} (kept : List Bool) (items : List X) (i : ℕ) (x : X) → slice_get kept i ≡ Some true → slice_get items i ≡ Some x → slice_get (kept_of kept items) (count_kept (take i kept)) ≡ Some x
+pub kept_at : {X : Type 0} (kept : List Bool) (items : List X) (i : ℕ) (x : X) → slice_get kept i ≡ Some true → slice_get items i ≡ Some x → slice_get (kept_of kept items) (count_marks (take i kept)) ≡ Some x
 unfolding kept_of
 kept_at [] items i x e at = absurd (none-some true e)
 kept_at (keeps ∷ kept) [] i x e at = absurd (none-some x at)
 kept_at (true ∷ kept) (item ∷ items) zero x e at = at
 kept_at (false ∷ kept) (item ∷ items) zero x e at = let f : false ≡ true = same_Some false true e in absurd (cc)
 kept_at (true ∷ kept) (item ∷ items) (suc i) x e at =
-    let n : count_kept (true ∷ take i kept) ≡ suc (count_kept (take i kept)) = count-true (take i kept) ∙ omega arith in
+    let n : count_marks (true ∷ take i kept) ≡ suc (count_marks (take i kept)) = count-true (take i kept) ∙ omega arith in
     subst (λ k. slice_get (item ∷ kept_of kept items) k ≡ Some x) (sym n) (kept_at kept items i x e at)
 kept_at (false ∷ kept) (item ∷ items) (suc i) x e at =
     subst (λ k. slice_get (kept_of kept items) k ≡ Some x) (sym (count-false (take i kept))) (kept_at kept items i x e at)
@@ -97,23 +98,23 @@ stood_at (true ∷ kept) (item ∷ items) (suc k) x e =
 stood_at (false ∷ kept) (item ∷ items) k x e =
     let h = stood_at kept items k x e in record { place = suc h.place; keeps = h.keeps; at = h.at }
 
-pub length-kept : {X : Type 0} (kept : List Bool) (items : List X) → length kept ≡ length items → length (kept_of kept items) ≡ count_kept kept
+pub length-kept : {X : Type 0} (kept : List Bool) (items : List X) → length kept ≡ length items → length (kept_of kept items) ≡ count_marks kept
 unfolding kept_of
 length-kept [] items e = refl
 length-kept (keeps ∷ kept) [] e = absurd (omega arith)
 length-kept (true ∷ kept) (item ∷ items) e =
-    let h : length (kept_of kept items) ≡ count_kept kept = length-kept kept items (omega arith) in omega (arith, count-true kept)
+    let h : length (kept_of kept items) ≡ count_marks kept = length-kept kept items (omega arith) in omega (arith, count-true kept)
 length-kept (false ∷ kept) (item ∷ items) e = length-kept kept items (omega arith) ∙ sym (count-false kept)
 
 -- fewer are kept before a kept one than in all
-pub count-below : (kept : List Bool) (i : ℕ) → slice_get kept i ≡ Some true → count_kept (take i kept) < count_kept kept
+pub count-below : (kept : List Bool) (i : ℕ) → slice_get kept i ≡ Some true → count_marks (take i kept) < count_marks kept
 count-below [] i e = absurd (none-some true e)
 count-below (true ∷ kept) zero e = omega (arith, count-true kept)
 count-below (false ∷ kept) zero e = let f : false ≡ true = same_Some false true e in absurd (cc)
 count-below (true ∷ kept) (suc i) e =
-    let h : count_kept (take i kept) < count_kept kept = count-below kept i e in omega (arith, count-true kept, count-true (take i kept))
+    let h : count_marks (take i kept) < count_marks kept = count-below kept i e in omega (arith, count-true kept, count-true (take i kept))
 count-below (false ∷ kept) (suc i) e =
-    let h : count_kept (take i kept) < count_kept kept = count-below kept i e in omega (arith, count-false kept, count-false (take i kept))
+    let h : count_marks (take i kept) < count_marks kept = count-below kept i e in omega (arith, count-false kept, count-false (take i kept))
 
 -- ---- edges led alike
 

@@ -1,5 +1,4 @@
 pub mod Passing
-pub mod Marks
 pub mod Searching
 pub mod Tables
 pub mod Keeping

@@ -10,6 +10,8 @@ use Rattle.cj_ir.specs.Values.{operand_value, expr_value}
 use Rattle.cj_ir.specs.declared.language.FunId.{FunId}
 use Rattle.cj_ir.specs.declared.language.Label.{Label}
 use Rattle.cj_ir.specs.declared.language.Program.{Program}
+use Rattle.cj_ir.proofs.Marks.{count_marks}
+use Rattle.cj_ir.proofs.Members.{contains-head, contains-one}
 use Rattle.cj_base.specs.Machine.{Fault, BadAddress, ZeroDivisor, Effect, On, with_value, cell, with_cell, branch, op_effect, load_effect, store_effect}
 use Rattle.cj_draft.specs.declared.facts.Fact.{Fact}
 use Rattle.cj_draft.specs.declared.instructions.VInstr.{VInstr}
@@ -27,13 +29,15 @@ use Rattle.cj_draft.proofs.Insert.{IsKept}
 use Rattle.cj_draft.proofs.Rows.{guard_next-relabel}
 use Rattle.cj_draft.proofs.Lowering.{NoPair, ReachesOn, lowered_sound}
 use Rattle.cj_draft.proofs.Lowering.{IsLowered as GoesTo}
-use Rattle.cj_anchor.specs.Lowering.{anchor_next, anchor_at, passed, successors, Reached, Entry, Edge, AreKept, renumbered, led, led_place, kept_of, lowered}
+use Rattle.cj_draft.proofs.EdgeLemmas.{relabel_fine, guard_successor}
+use Rattle.cj_draft.specs.Edges.{successors}
+use Rattle.cj_rows.specs.Rows.{anchor_next, anchor_at}
+use Rattle.cj_anchor.specs.Lowering.{passed, Reached, Entry, Edge, AreKept, renumbered, led, led_place, kept_of, lowered}
 use Rattle.cj_anchor.specs.Search.{IsClosed}
-use Rattle.cj_anchor.proofs.Marks.{count_kept}
 use Rattle.cj_anchor.proofs.Keeping.{kept_at, stood_at, length-kept, count-below}
-use Rattle.cj_anchor.proofs.Closed.{relabel_fine, named_closed}
+use Rattle.cj_anchor.proofs.Closed.{named_closed}
 use Rattle.cj_anchor.proofs.Passing.{IsAnchorTo, has_anchor, anchor-at_place, passed_none, passed_next, passed_is_none, row_passed}
-use Rattle.cj_anchor.proofs.Searching.{only_one, reached_within}
+use Rattle.cj_anchor.proofs.Searching.{reached_within}
 
 -- ---- the labels to which an effect leads are successors
 
@@ -50,27 +54,24 @@ unfolding with_value
 value_in R None fault go h = tt
 value_in R (Some v) fault go h = h v
 
-here : (x : Label) (more : List Label) → Contains (x ∷ more) x
-here x more = (0, omega arith, refl)
-
 leads_to : (R : Label → Type 0) (i : VInstr) (regs m : List ℤ) → ((y : Label) → Contains (successors i) y → R y) → ReachesOn R (version_effect i regs m)
 unfolding version_effect successors op_effect load_effect store_effect
-leads_to R (Nop x) regs m h = h x (here x [])
-leads_to R (Op d e x) regs m h = value_in R (expr_value regs e) ZeroDivisor (λ v. On x (slice_set regs d.0 v) m []) (λ v. h x (here x []))
-leads_to R (Move ps x) regs m h = h x (here x [])
-leads_to R (Cond t x y) regs m h = branch_in R (operand_value regs t) x y (h x (here x (y ∷ []))) (h y (1, omega arith, refl))
-leads_to R (Call d f args x) regs m h = h x (here x [])
+leads_to R (Nop x) regs m h = h x (contains-head x [])
+leads_to R (Op d e x) regs m h = value_in R (expr_value regs e) ZeroDivisor (λ v. On x (slice_set regs d.0 v) m []) (λ v. h x (contains-head x []))
+leads_to R (Move ps x) regs m h = h x (contains-head x [])
+leads_to R (Cond t x y) regs m h = branch_in R (operand_value regs t) x y (h x (contains-head x (y ∷ []))) (h y (1, omega arith, refl))
+leads_to R (Call d f args x) regs m h = h x (contains-head x [])
 leads_to R (Return v) regs m h = tt
-leads_to R (Print v x) regs m h = h x (here x [])
+leads_to R (Print v x) regs m h = h x (contains-head x [])
 leads_to R (Load d a x) regs m h =
     let address = operand_value regs a in
-    value_in R (cell m address) (BadAddress address) (λ v. On x (slice_set regs d.0 v) m []) (λ v. h x (here x []))
+    value_in R (cell m address) (BadAddress address) (λ v. On x (slice_set regs d.0 v) m []) (λ v. h x (contains-head x []))
 leads_to R (Store a v x) regs m h =
     let address = operand_value regs a in
-    value_in R (cell m address) (BadAddress address) (λ w. On x regs (with_cell m address (operand_value regs v)) []) (λ w. h x (here x []))
+    value_in R (cell m address) (BadAddress address) (λ w. On x regs (with_cell m address (operand_value regs v)) []) (λ w. h x (contains-head x []))
 leads_to R (Fail f l) regs m h = tt
-leads_to R (Assume gs b t x) regs m h = h x (here x [])
-leads_to R (Anchor b t x) regs m h = h x (here x [])
+leads_to R (Assume gs b t x) regs m h = h x (contains-head x [])
+leads_to R (Anchor b t x) regs m h = h x (contains-head x [])
 
 -- ---- instructions
 
@@ -89,24 +90,9 @@ no_anchor r (Store x y n) e = tt
 no_anchor r (Fail f l) e = tt
 no_anchor r (Assume g b t n) e = tt
 
-pub guard_is_successor : (i : VInstr) (next : Label) → guard_next i ≡ Some next → Contains (successors i) next
-unfolding guard_next successors
-guard_is_successor (Assume g b t x) next e = (0, omega arith, same_Some x next e)
-guard_is_successor (Anchor b t x) next e = (0, omega arith, same_Some x next e)
-guard_is_successor (Nop x) next e = absurd (none-some next e)
-guard_is_successor (Op d x n) next e = absurd (none-some next e)
-guard_is_successor (Move ps n) next e = absurd (none-some next e)
-guard_is_successor (Cond t x y) next e = absurd (none-some next e)
-guard_is_successor (Call d f args n) next e = absurd (none-some next e)
-guard_is_successor (Return v) next e = absurd (none-some next e)
-guard_is_successor (Print v n) next e = absurd (none-some next e)
-guard_is_successor (Load d x n) next e = absurd (none-some next e)
-guard_is_successor (Store x y n) next e = absurd (none-some next e)
-guard_is_successor (Fail f l) next e = absurd (none-some next e)
-
 successor_of_anchor : (i : VInstr) (next y : Label) → IsAnchorTo next i → Contains (successors i) y → next ≡ y
 unfolding successors
-successor_of_anchor i next y a c = only_one next y (subst (λ z. Contains (successors z) y) a.is c)
+successor_of_anchor i next y a c = contains-one next y (subst (λ z. Contains (successors z) y) a.is c)
 
 -- what an option that is mapped was
 record WasMapped {X Y : Type 0} (f : X → Y) (o : Option X) (y : Y) : Type 0 where
@@ -163,7 +149,7 @@ module _ (P : Program) (context : List Fact) (f : FunId) (code : Code) (kept : L
   kept_place : (x : Label) (p : Place) → Reached code x → place_at code x ≡ Some p → place_at code' (renumbered kept x) ≡ Some (led_place r p)
   unfolding code' lowered renumbered r
   kept_place x p reached at =
-      slice_get-map (led_place (led code kept)) (kept_of kept code.places) (count_kept (take x.0 kept))
+      slice_get-map (led_place (led code kept)) (kept_of kept code.places) (count_marks (take x.0 kept))
       ∙ ap (option_map (led_place (led code kept))) (kept_at kept code.places x.0 p (is_kept x reached) at)
 
   as_kept : (p : Place) → IsKept r NoPair p (led_place r p)
@@ -208,15 +194,15 @@ module _ (P : Program) (context : List Fact) (f : FunId) (code : Code) (kept : L
 
   -- ---- names
 
-  length-lowered : length code'.places ≡ count_kept kept
+  length-lowered : length code'.places ≡ count_marks kept
   unfolding code' lowered
   length-lowered = length-map (kept_of kept code.places) (led_place (led code kept)) ∙ length-kept kept code.places are.count
 
   led_within : (x : Label) → R x → (r x).0 < length code'.places
   unfolding R r led renumbered
   led_within x rx =
-      let h : count_kept (take (passed code x).0 kept) < count_kept kept = count-below kept (passed code x).0 (is_kept (passed code x) rx) in
-      subst (λ n. count_kept (take (passed code x).0 kept) < n) (sym length-lowered) h
+      let h : count_marks (take (passed code x).0 kept) < count_marks kept = count-below kept (passed code x).0 (is_kept (passed code x) rx) in
+      subst (λ n. count_marks (take (passed code x).0 kept) < n) (sym length-lowered) h
 
   place_fine : (i : ℕ) (p' : Place) → slice_get code'.places i ≡ Some p' → IsPlaceFine P code.regs (length code'.places) p'
   unfolding led_place R
@@ -263,7 +249,7 @@ module _ (P : Program) (context : List Fact) (f : FunId) (code : Code) (kept : L
       let same : led_place r old.0 ≡ p' = same_Some (led_place r old.0) p' (sym (kept_place x old.0 reached old.1) ∙ at') in
       let m = was_mapped r (guard_next old.0.instr) next' (sym (guard_led old.0 p' same) ∙ g) in
       subst (RowWithin code' n) m.same
-      (row_led n (passed code m.item) (Edge x old.0 m.item reached old.1 (guard_is_successor old.0.instr m.item m.is)) (row_passed code n m.item (row old.0 m.item old.1 m.is)))
+      (row_led n (passed code m.item) (Edge x old.0 m.item reached old.1 (guard_successor old.0.instr m.item m.is)) (row_passed code n m.item (row old.0 m.item old.1 m.is)))
 
   rows : (y : Label) → RowWithin code' 8 y
   unfolding r led
@@ -271,7 +257,7 @@ module _ (P : Program) (context : List Fact) (f : FunId) (code : Code) (kept : L
       let w = was y p' at' in
       let m = was_mapped r (guard_next w.place.instr) next' (sym (guard_led w.place p' w.same) ∙ g) in
       subst (RowWithin code' 7) m.same
-      (row_led 7 (passed code m.item) (Edge w.label w.place m.item w.reached w.at (guard_is_successor w.place.instr m.item m.is)) (row_passed code 7 m.item (sound.rows w.label w.place m.item w.at m.is)))
+      (row_led 7 (passed code m.item) (Edge w.label w.place m.item w.reached w.at (guard_successor w.place.instr m.item m.is)) (row_passed code 7 m.item (sound.rows w.label w.place m.item w.at m.is)))
 
   -- ---- the whole
 

@@ -12,8 +12,10 @@ use Rattle.cj_draft.specs.declared.code.Code.{Code}
 use Rattle.cj_draft.specs.Arrives.{place_at}
 use Rattle.cj_draft.specs.Sound.{guard_next, RowWithin}
 use Rattle.cj_draft.proofs.Lists.{all_at}
+use Rattle.cj_draft.specs.Edges.{successors}
 use Rattle.cj_rows.proofs.RowLemmas.{row_more}
-use Rattle.cj_anchor.specs.Lowering.{anchor_next, next_at, anchor_at, or_on, past_anchors, passed, successors}
+use Rattle.cj_rows.specs.Rows.{anchor_next, anchor_in, anchor_at}
+use Rattle.cj_anchor.specs.Lowering.{or_on, past_anchors, passed}
 use Rattle.cj_anchor.specs.Search.{IsClosed}
 
 -- an Anchor that leads to a label
@@ -44,17 +46,17 @@ pub record HasAnchor (code : Code) (label next : Label) : Type 0 where
   pub anchor : IsAnchorTo next place.instr
 
 pub has_anchor : (code : Code) (label next : Label) → anchor_at code label ≡ Some next → HasAnchor code label next
-unfolding anchor_at next_at
+unfolding anchor_at anchor_in
 has_anchor code label next e = by_place (place_at code label) refl e
   where
-    by_place : (o : Option Place) → place_at code label ≡ o → next_at o ≡ Some next → HasAnchor code label next
+    by_place : (o : Option Place) → place_at code label ≡ o → anchor_in o ≡ Some next → HasAnchor code label next
     by_place None at e = absurd (none-some next e)
     by_place (Some p) at e = record { place = p; at = at; anchor = anchor_to p.instr next e }
 
 -- a place is what the label's Anchor is judged by
 pub anchor-at_place : (code : Code) (label : Label) (p : Place) → place_at code label ≡ Some p → anchor_at code label ≡ anchor_next p.instr
-unfolding anchor_at next_at
-anchor-at_place code label p at = ap next_at at
+unfolding anchor_at anchor_in
+anchor-at_place code label p at = ap anchor_in at
 
 pub guard-of_anchor : (instr : VInstr) (next : Label) → IsAnchorTo next instr → guard_next instr ≡ Some next
 unfolding guard_next

@@ -7,52 +7,37 @@ use Rattle.std.proofs.lemmas.List.Sums.{count_by-le-length}
 use Rattle.std.proofs.lemmas.List.Elements.{Contains-get_or, Contains-append_left, Contains-append_right, Contains-append_cases}
 use Rattle.std.proofs.lemmas.Bool.{cases_eq}
 use Rattle.cj_ir.specs.declared.language.Label.{Label}
+use Rattle.cj_ir.proofs.Marks.{count-none, count-set, no_mark}
+use Rattle.cj_ir.proofs.Members.{contains-none, contains-one}
+use Rattle.cj_ir.proofs.Labels.{same_label}
 use Rattle.cj_draft.specs.declared.code.Place.{Place}
 use Rattle.cj_draft.specs.declared.code.Code.{Code}
 use Rattle.cj_draft.specs.Arrives.{place_at}
-use Rattle.cj_anchor.specs.Lowering.{passed, successors, Reached, Entry, Edge, AreKept}
+use Rattle.cj_anchor.specs.Lowering.{passed, Reached, Entry, Edge, AreKept}
 use Rattle.cj_anchor.specs.Search.{IsClosed, IsSearch, Grows, AreLed, IsFollowed, AreFollowed}
 use Rattle.cj_draft.proofs.Lists.{all_at}
+use Rattle.cj_draft.specs.Edges.{successors}
 use Rattle.cj_anchor.proofs.Passing.{passed_within, next_within}
-use Rattle.cj_rows.proofs.ListReads.{get-set_same, get-set_other, get-append_left, get-replicate, contains-at, at-contains}
-use Rattle.cj_anchor.proofs.Marks.{count-none, count-set}
+use Rattle.cj_rows.proofs.ListReads.{get-set_same, get-set_other, get-append_left, contains-at, at-contains}
 
 -- ---- nothing found
-
-none_in : {X : Type 0} (x : X) → Contains [] x → ⊥
-none_in x c = let h : c.0 < 0 = c.1 in omega arith
-
-no_mark : (n k : ℕ) → slice_get (replicate n false) k ≡ Some true → ⊥
-no_mark n k e = let f : false ≡ true = get-replicate n k false true e in cc
 
 pub search_begins : (code : Code) → IsSearch code (replicate (length code.places) false) []
 search_begins code = record {
   count = length-replicate (length code.places) false;
   number = sym (count-none (length code.places));
   kept_found = λ x e. absurd (no_mark (length code.places) x.0 e);
-  found_kept = λ x c. absurd (none_in x c);
-  reached = λ x c. absurd (none_in x c);
+  found_kept = λ x c. absurd (contains-none x c);
+  reached = λ x c. absurd (contains-none x c);
 }
 
 -- ---- one label more
-
-pub only_one : (x y : Label) → Contains (x ∷ []) y → x ≡ y
-only_one x y c =
-    let h : c.0 < 1 = c.1 in
-    let z : 0 ≡ c.0 = omega arith in
-    same_Some x y (ap (slice_get (x ∷ [])) z ∙ at-contains (x ∷ []) y c)
 
 pub grows_more : (found : List Label) (x : Label) → Grows found (found ++ x ∷ [])
 grows_more found x = λ k y e. get-append_left found (x ∷ []) k y e
 
 pub grows_contains : (old new : List Label) (x : Label) → Grows old new → Contains old x → Contains new x
 grows_contains old new x grows c = contains-at new c.0 x (grows c.0 x (at-contains old x c))
-
-same_label : (x y : Label) → x.0 ≡ y.0 → x ≡ y
-same_label x y e = ap label e
-  where
-    label : ℕ → Label
-    label n = record { 0 = n }
 
 pub search_more : (code : Code) (kept : List Bool) (found : List Label) (x : Label) → IsSearch code kept found → slice_get kept x.0 ≡ Some false → x.0 < length kept → Reached code x → IsSearch code (slice_set kept x.0 true) (found ++ x ∷ [])
 search_more code kept found x s at within reached = record {
@@ -64,9 +49,9 @@ search_more code kept found x s at within reached = record {
       (cases_eq y.0 x.0);
   found_kept = λ y c. ⊎_elim
       (λ old. still y (s.found_kept y old))
-      (λ new. subst (λ z. slice_get (slice_set kept x.0 true) z.0 ≡ Some true) (only_one x y new) (get-set_same kept x.0 true within))
+      (λ new. subst (λ z. slice_get (slice_set kept x.0 true) z.0 ≡ Some true) (contains-one x y new) (get-set_same kept x.0 true within))
       (Contains-append_cases found (x ∷ []) y c);
-  reached = λ y c. ⊎_elim (λ old. s.reached y old) (λ new. subst (Reached code) (only_one x y new) reached) (Contains-append_cases found (x ∷ []) y c);
+  reached = λ y c. ⊎_elim (λ old. s.reached y old) (λ new. subst (Reached code) (contains-one x y new) reached) (Contains-append_cases found (x ∷ []) y c);
 }
   where
     still : (y : Label) → slice_get kept y.0 ≡ Some true → slice_get (slice_set kept x.0 true) y.0 ≡ Some true
@@ -84,11 +69,11 @@ pub followed_grows : (code : Code) (old new : List Label) (x : Label) → Grows 
 followed_grows code old new x grows followed = λ place at. led_grows code old new (successors place.instr) grows (followed place at)
 
 pub led_none : (code : Code) (found : List Label) → AreLed code found []
-led_none code found = λ next c. absurd (none_in next c)
+led_none code found = λ next c. absurd (contains-none next c)
 
 pub led_more : (code : Code) (found : List Label) (x : Label) (nexts : List Label) → Contains found (passed code x) → AreLed code found nexts → AreLed code found (x ∷ nexts)
 led_more code found x nexts here led = λ next c. ⊎_elim
-    (λ one. subst (λ y. Contains found (passed code y)) (only_one x next one) here)
+    (λ one. subst (λ y. Contains found (passed code y)) (contains-one x next one) here)
     (λ more. led next more)
     (Contains-append_cases (x ∷ []) nexts next c)
 

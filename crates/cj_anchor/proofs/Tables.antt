@@ -4,6 +4,7 @@ use Rattle.std.specs.Prelude.{slice_get, count_by}
 use Rattle.std.proofs.lemmas.Option.{get_or_from_slice_get}
 use Rattle.std.proofs.lemmas.Bool.{cases_eq}
 use Rattle.cj_ir.specs.declared.language.Label.{Label}
+use Rattle.cj_ir.proofs.Labels.{same_label}
 use Rattle.cj_draft.specs.declared.code.Code.{Code}
 use Rattle.cj_anchor.specs.Lowering.{passed, renumbered, led}
 use Rattle.cj_anchor.specs.Search.{IsTable, given}
@@ -21,16 +22,10 @@ table_more f n table x y t e is = record {
   at = λ z h. ⊎_elim
       (λ same.
       let here : slice_get (table ++ y ∷ []) z.0 ≡ Some y = subst (λ k. slice_get (table ++ y ∷ []) k ≡ Some y) (t.count ∙ sym same) (get-append_end table y) in
-      here ∙ ap Some (is ∙ ap f (label_is x z (e ∙ sym same))))
+      here ∙ ap Some (is ∙ ap f (same_label x z (e ∙ sym same))))
       (λ other. let less : z.0 < n = omega arith in get-append_left table (y ∷ []) z.0 (f z) (t.at z less))
       (cases_eq z.0 n);
 }
-  where
-    label_is : (a b : Label) → a.0 ≡ b.0 → a ≡ b
-    label_is a b e = ap (λ (k : ℕ). label k) e
-      where
-        label : ℕ → Label
-        label k = record { 0 = k }
 
 pub numbers_more : (kept : List Bool) (n number : ℕ) (labels : List Label) → IsTable (renumbered kept) n labels → number ≡ count_by (λ keeps. keeps) (take n kept) → IsTable (renumbered kept) (n + 1) (labels ++ numbered number ∷ [])
 unfolding renumbered numbered

@@ -1,18 +1,14 @@
 -- Anchors before the labels of a list are inserted in one way.
-use Rattle.std.proofs.Common.{◌≡◌, ℕ, ◌+◌, List, ◌∷◌, refl, sym, ap₂, ◌∙◌, subst, ⊎_elim}
+use Rattle.std.proofs.Common.{◌≡◌, ℕ, ◌+◌, List, ◌∷◌, refl, sym, ap₂, ◌∙◌, subst}
 use Rattle.std.proofs.lemmas.Option.{same_Some, none-some}
 use Rattle.cj_ir.specs.declared.language.Label.{Label}
-use Rattle.cj_draft.specs.declared.code.Back.{Back}
 use Rattle.cj_draft.specs.declared.code.Place.{Place}
 use Rattle.cj_draft.specs.declared.code.Code.{Code}
 use Rattle.cj_draft.specs.declared.passes.Skipped.{Skipped}
 use Rattle.cj_draft.specs.Sound.{pair_of}
-use Rattle.cj_anchor.specs.AnchorInsertion.{AreWith, anchored, IsAnchored, skip_number, AreAnchored, Finished, Placed, Passed}
-
-with_alike : (backs : List Back) (pair : Back) (one other : List Back) → AreWith backs pair one → AreWith backs pair other → one ≡ other
-with_alike backs pair one other a b = ⊎_elim
-    (λ x. ⊎_elim (λ y. x.1 ∙ sym y.1) (λ y. absurd (y.0 x.0)) b)
-    (λ x. ⊎_elim (λ y. absurd (x.0 y.0)) (λ y. x.1 ∙ sym y.1) b) a
+use Rattle.cj_rows.specs.Pairs.{AreWith}
+use Rattle.cj_rows.proofs.WithPairs.{with_alike}
+use Rattle.cj_anchor.specs.AnchorInsertion.{anchored, IsAnchored, skip_number, AreAnchored, Finished, Placed, Passed}
 
 pub anchored_unique : (code : Code) (label : Label) (one other : Code) → IsAnchored code label one → IsAnchored code label other → one ≡ other
 anchored_unique code label one other a b =

@@ -1,5 +1,5 @@
 -- Anchors before labels.
-use Rattle.std.specs.Prelude.{◌≡◌, ℕ, ◌+◌, ◌-◌, ◌^◌, min, Bool, true, false, ◌⊎◌, nat_eq, List, [], ◌∷◌, ◌++◌, length, map, Contains, Option, Some, None}
+use Rattle.std.specs.Prelude.{◌≡◌, ℕ, ◌+◌, ◌-◌, ◌^◌, min, ◌⊎◌, List, [], ◌∷◌, ◌++◌, length, map, Option, Some, None}
 use Rattle.cj_ir.specs.declared.language.Label.{Label}
 use Rattle.cj_draft.specs.declared.instructions.VInstr.TheVariants.{Anchor}
 use Rattle.cj_draft.specs.declared.code.Back.{Back}
@@ -9,9 +9,11 @@ use Rattle.cj_draft.specs.declared.passes.Skipped.{Skipped}
 use Rattle.cj_draft.specs.declared.passes.Skipped.TheVariants.{NoPlace}
 use Rattle.cj_draft.specs.Arrives.{place_at}
 use Rattle.cj_draft.specs.Sound.{pair_of}
+use Rattle.cj_draft.specs.Edges.{fresh_label, led_to}
 use Rattle.cj_anchor.specs.Lowering.{led_place}
 use Rattle.cj_rows.specs.Rows.{fresh_row}
 use Rattle.cj_rows.specs.Rooms.{room_offence}
+use Rattle.cj_rows.specs.Pairs.{AreWith}
 
 -- ---- the conditions
 
@@ -25,33 +27,17 @@ anchor_offence code label = offence_at code label (place_at code label)
 
 -- ---- an Anchor before a label
 
-unfoldable pub if_label : Bool → Label → Label → Label
-if_label true anchor other = anchor
-if_label false anchor other = other
-
--- edges to the label go to the Anchor, and others stay
-unfoldable pub to_anchor : Label → Label → Label → Label
-to_anchor label anchor x = if_label (nat_eq x.0 label.0) anchor x
-
--- the pairs with this one appended, where it is missing
-abbrev pub AreWith : List Back → Back → List Back → Type 0
-AreWith backs pair all = (Contains backs pair × (all ≡ backs)) ⊎ (¬ Contains backs pair × (all ≡ backs ++ pair ∷ []))
-
 unfoldable pub anchor_place : Label → Place → List Back → Place
 anchor_place label place backs =
     record { instr = Anchor 0 place.point label; point = place.point; facts = place.facts; backs = backs }
-
--- the label that is appended
-unfoldable pub fresh_label : Code → Label
-fresh_label code = record { 0 = length code.places }
 
 unfoldable pub anchored : Code → Label → Place → List Back → Code
 anchored code label place backs =
     record {
       function = code.function;
       regs = code.regs;
-      entry = to_anchor label (fresh_label code) code.entry;
-      places = map (led_place (to_anchor label (fresh_label code))) code.places ++ anchor_place label place backs ∷ [];
+      entry = led_to label (fresh_label code) code.entry;
+      places = map (led_place (led_to label (fresh_label code))) code.places ++ anchor_place label place backs ∷ [];
     }
 
 -- `made` is the code with a fresh Anchor before the label. There is exactly one.

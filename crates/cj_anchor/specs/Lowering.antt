@@ -1,27 +1,14 @@
 -- Lowering: a code without its Anchors and without the labels that no path from its entry reaches.
 use Rattle.std.specs.Prelude.{◌≡◌, ◌↔◌, ℕ, zero, suc, Bool, true, false, List, [], ◌∷◌, length, map, take, count_by, Contains, Option, Some, None, slice_get}
 use Rattle.cj_ir.specs.declared.language.Label.{Label}
-use Rattle.cj_draft.specs.declared.instructions.VInstr.{VInstr}
-use Rattle.cj_draft.specs.declared.instructions.VInstr.TheVariants.{Nop, Op, Move, Cond, Call, Return, Print, Load, Store, Fail, Assume, Anchor}
 use Rattle.cj_draft.specs.declared.code.Place.{Place}
 use Rattle.cj_draft.specs.declared.code.Code.{Code}
 use Rattle.cj_draft.specs.Arrives.{place_at}
 use Rattle.cj_draft.specs.Relabel.{relabel}
+use Rattle.cj_draft.specs.Edges.{successors}
+use Rattle.cj_rows.specs.Rows.{anchor_at}
 
 -- ---- past Anchors
-
--- the next label of an Anchor
-unfoldable pub anchor_next : VInstr → Option Label
-anchor_next (Anchor back target next) = Some next
-anchor_next instr = None
-
-unfoldable pub next_at : Option Place → Option Label
-next_at None = None
-next_at (Some place) = anchor_next place.instr
-
--- the next label of the Anchor at a label, where there is one
-unfoldable pub anchor_at : Code → Label → Option Label
-anchor_at code label = next_at (place_at code label)
 
 unfoldable pub or_on : Option Label → Label → (Label → Label) → Label
 or_on None label on = label
@@ -37,21 +24,6 @@ unfoldable pub passed : Code → Label → Label
 passed code label = past_anchors code 8 label
 
 -- ---- the labels that are reached
-
--- the labels to which an instruction goes on
-unfoldable pub successors : VInstr → List Label
-successors (Nop next) = next ∷ []
-successors (Op dest expr next) = next ∷ []
-successors (Move pairs next) = next ∷ []
-successors (Cond test then_to else_to) = then_to ∷ else_to ∷ []
-successors (Call dest f args next) = next ∷ []
-successors (Return value) = []
-successors (Print value next) = next ∷ []
-successors (Load dest address next) = next ∷ []
-successors (Store address value next) = next ∷ []
-successors (Fail f label) = []
-successors (Assume guards back target next) = next ∷ []
-successors (Anchor back target next) = next ∷ []
 
 -- The labels on the paths from the entry, where the entry and each edge go past Anchors.
 pub data Reached (code : Code) : Label → Type 0 where

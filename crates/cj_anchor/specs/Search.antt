@@ -1,22 +1,16 @@
 -- What the search for the reached labels of a code keeps.
-use Rattle.std.specs.Prelude.{◌≡◌, ℕ, ◌<◌, Bool, true, List, [], ◌∷◌, length, count_by, All, Contains, Some, slice_get, slice_index_or}
+use Rattle.std.specs.Prelude.{◌≡◌, ℕ, ◌<◌, Bool, true, List, length, count_by, All, Contains, Some, slice_get, slice_index_or}
 use Rattle.cj_ir.specs.declared.language.Label.{Label}
 use Rattle.cj_draft.specs.declared.code.Place.{Place}
 use Rattle.cj_draft.specs.declared.code.Code.{Code}
 use Rattle.cj_draft.specs.Arrives.{place_at}
-use Rattle.cj_anchor.specs.declared.reach.Nexts.{Nexts}
-use Rattle.cj_anchor.specs.declared.reach.Nexts.TheVariants.{End, One, Two}
-use Rattle.cj_anchor.specs.Lowering.{passed, successors, Reached}
+use Rattle.cj_draft.specs.Edges.{successors}
+use Rattle.cj_anchor.specs.Lowering.{passed, Reached}
 
 -- the entry and all edges go to labels of the code
 pub record IsClosed (code : Code) : Type 0 where
   pub entry : code.entry.0 < length code.places
   pub edges : All (λ place. All (λ next. next.0 < length code.places) (successors place.instr)) code.places
-
-abbrev pub listed : Nexts → List Label
-listed End = []
-listed (One next) = next ∷ []
-listed (Two then_to else_to) = then_to ∷ else_to ∷ []
 
 -- the labels found so far, each of them reached and marked as kept, and no others are marked
 pub record IsSearch (code : Code) (kept : List Bool) (found : List Label) : Type 0 where

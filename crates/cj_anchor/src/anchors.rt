@@ -1,17 +1,16 @@
 //! Anchors before labels.
 
 ghost use Rattle.std.specs.Prelude.{◌≡◌, ◌<◌, ◌≤◌, IfOk, length, map};
-ghost use Rattle.cj_draft.specs.Sound.{pair_of};
+ghost use Rattle.cj_draft.specs.Edges.{led_to};
 ghost use Rattle.cj_anchor.specs.Lowering.{led_place};
 ghost use Rattle.cj_anchor.specs.Search.{IsClosed, IsTable, given};
-ghost use Rattle.cj_anchor.specs.AnchorInsertion.{anchor_offence, to_anchor, AreWith, IsAnchored, IsAnchorStep, IsAnchorPlace, skip_number, AreAnchored};
+ghost use Rattle.cj_anchor.specs.AnchorInsertion.{anchor_offence, IsAnchored, IsAnchorStep, IsAnchorPlace, skip_number, AreAnchored};
 
 use crate::edges::{given, led_place};
 use crate::lowering::reversed;
-use crate::same::has_pair;
-use cj_draft::{Back, Backs, Code, Draft, Place, Places, Point, Skipped, Skips, VInstr};
+use cj_draft::{Code, Draft, Place, Places, Skipped, Skips, VInstr, led_to};
 use cj_ir::{Duplicate, Label, Labels, NoMemory};
-use cj_rows::{fresh_row, room_offence};
+use cj_rows::{fresh_row, room_offence, with_pair};
 use std::alloc::Global;
 
 /// An Anchor before each of these labels, in their order, with the label's point as its target. An offence skips that
@@ -98,20 +97,13 @@ fn anchored(code: Code, label: Label) -> Result<Code, NoMemory>
 /// For each label, where an edge to it goes: to the Anchor from the one that it is before.
 fn table_to(alloc: Global, labels: usize, label: Label, anchor: Label) -> Result<Labels, NoMemory>
     requires { labels ≤ 512 }
-    ensures { IfOk result (IsTable (to_anchor label anchor) labels) }
+    ensures { IfOk result (IsTable (led_to label anchor) labels) }
 {
     let mut table = Labels::new(alloc);
     for from in 0..labels {
-        table.push(to_anchor(label, anchor, Label(from as u32)))?;
+        table.push(led_to(label, anchor, Label(from as u32)))?;
     }
     Ok(table)
-}
-
-#[tactic(auto, unfolding(crate::specs::AnchorInsertion::to_anchor, crate::specs::AnchorInsertion::if_label))]
-fn to_anchor(label: Label, anchor: Label, to: Label) -> Label
-    ensures { result ≡ to_anchor label anchor to }
-{
-    if to.0 == label.0 { anchor } else { to }
 }
 
 /// The places with their edges led by the table.
@@ -130,7 +122,7 @@ fn led_places(places: Places, table: &[Label]) -> Result<Places, NoMemory>
 fn anchor_place(place: &Place, label: Label) -> Result<Place, NoMemory>
     ensures { IfOk result (IsAnchorPlace label place.now) }
 {
-    let backs = with_own(&place.backs, &place.point)?;
+    let backs = with_pair(&place.backs, 0, &place.point)?;
     let target = place.point.copy()?;
     let point = place.point.copy()?;
     let facts = place.facts.copy()?;
@@ -145,17 +137,4 @@ fn anchor_place(place: &Place, label: Label) -> Result<Place, NoMemory>
         facts,
         backs,
     })
-}
-
-/// The pairs with that of number 0 and the point appended, where it is missing.
-fn with_own(backs: &Backs, point: &Point) -> Result<Backs, NoMemory>
-    ensures { IfOk result (AreWith backs.now (pair_of 0 point.now)) }
-{
-    let mut all = backs.copy()?;
-    if has_pair(backs.items(), 0, point) {
-        return Ok(all);
-    }
-    let point = point.copy()?;
-    all.push(Back { turns: 0, point })?;
-    Ok(all)
 }

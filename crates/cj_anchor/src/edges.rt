@@ -21,83 +21,30 @@ pub(crate) fn given(table: &[Label], label: Label) -> Label
 
 /// The instruction with its edges led by the table.
 #[tactic(auto, unfolding(cj_draft::specs::Relabel::relabel))]
-fn relabelled(instr: VInstr, table: &[Label]) -> VInstr
+fn relabelled(mut instr: VInstr, table: &[Label]) -> VInstr
     ensures { result ≡ relabel (given table.now) instr }
 {
-    match instr {
-        VInstr::Nop { next } => VInstr::Nop {
-            next: given(table, next),
-        },
-        VInstr::Op { dest, expr, next } => VInstr::Op {
-            dest,
-            expr,
-            next: given(table, next),
-        },
-        VInstr::Move { pairs, next } => VInstr::Move {
-            pairs,
-            next: given(table, next),
-        },
+    match &mut instr {
+        VInstr::Nop { next } => *next = given(table, *next),
+        VInstr::Op { next, .. } => *next = given(table, *next),
+        VInstr::Move { next, .. } => *next = given(table, *next),
+        VInstr::Call { next, .. } => *next = given(table, *next),
+        VInstr::Print { next, .. } => *next = given(table, *next),
+        VInstr::Load { next, .. } => *next = given(table, *next),
+        VInstr::Store { next, .. } => *next = given(table, *next),
+        VInstr::Assume { next, .. } => *next = given(table, *next),
+        VInstr::Anchor { next, .. } => *next = given(table, *next),
         VInstr::Cond {
-            test,
             then_to,
             else_to,
-        } => VInstr::Cond {
-            test,
-            then_to: given(table, then_to),
-            else_to: given(table, else_to),
-        },
-        VInstr::Call {
-            dest,
-            function,
-            args,
-            next,
-        } => VInstr::Call {
-            dest,
-            function,
-            args,
-            next: given(table, next),
-        },
-        VInstr::Print { value, next } => VInstr::Print {
-            value,
-            next: given(table, next),
-        },
-        VInstr::Load {
-            dest,
-            address,
-            next,
-        } => VInstr::Load {
-            dest,
-            address,
-            next: given(table, next),
-        },
-        VInstr::Store {
-            address,
-            value,
-            next,
-        } => VInstr::Store {
-            address,
-            value,
-            next: given(table, next),
-        },
-        VInstr::Assume {
-            guards,
-            back,
-            target,
-            next,
-        } => VInstr::Assume {
-            guards,
-            back,
-            target,
-            next: given(table, next),
-        },
-        VInstr::Anchor { back, target, next } => VInstr::Anchor {
-            back,
-            target,
-            next: given(table, next),
-        },
-        VInstr::Return { value } => VInstr::Return { value },
-        VInstr::Fail { function, label } => VInstr::Fail { function, label },
+            ..
+        } => {
+            *then_to = given(table, *then_to);
+            *else_to = given(table, *else_to);
+        }
+        VInstr::Return { .. } | VInstr::Fail { .. } => {}
     }
+    instr
 }
 
 /// The place with its edges led by the table.

@@ -6,7 +6,6 @@ pub mod edges;
 pub mod laws;
 pub mod lowering;
 pub mod reach;
-pub mod same;
 
 pub use anchors::insert_anchors;
 pub use lowering::lower;

@@ -2,61 +2,17 @@
 
 ghost use Rattle.std.specs.Prelude.{◌≡◌, ◌<◌, All, Contains, false, IfOk, OnOk, length, replicate};
 ghost use Rattle.cj_ir.specs.declared.language.Label.{Label};
-ghost use Rattle.cj_anchor.specs.Lowering.{passed, successors, anchor_at, Reached, AreKept};
-ghost use Rattle.cj_anchor.specs.Search.{IsClosed, listed, IsSearch, Grows, AreLed, IsFollowed};
+ghost use Rattle.cj_draft.specs.Edges.{listed};
+ghost use Rattle.cj_anchor.specs.Lowering.{passed, Reached, AreKept};
+ghost use Rattle.cj_anchor.specs.Search.{IsClosed, IsSearch, Grows, AreLed, IsFollowed};
 
-use cj_draft::{Code, VInstr};
+use cj_draft::{Code, Successors};
 use cj_ir::{Label, Labels, NoMemory, Sequence};
-use cj_rows::MAX_ROW;
+use cj_rows::{MAX_ROW, anchor_at};
 use std::alloc::Global;
 
 /// For each label of a code, whether it is kept.
 pub type Marks = Sequence<bool>;
-
-/// The labels to which an instruction goes on.
-#[derive(Clone, Copy)]
-enum Nexts {
-    End,
-    One { next: Label },
-    Two { then_to: Label, else_to: Label },
-}
-
-#[tactic(auto, unfolding(crate::specs::Lowering::successors))]
-fn edges_of(instr: &VInstr) -> Nexts
-    ensures { listed result ≡ successors instr.now }
-{
-    match *instr {
-        VInstr::Nop { next }
-        | VInstr::Op { next, .. }
-        | VInstr::Move { next, .. }
-        | VInstr::Call { next, .. }
-        | VInstr::Print { next, .. }
-        | VInstr::Load { next, .. }
-        | VInstr::Store { next, .. }
-        | VInstr::Assume { next, .. }
-        | VInstr::Anchor { next, .. } => Nexts::One { next },
-        VInstr::Cond {
-            then_to,
-            else_to,
-            ..
-        } => Nexts::Two { then_to, else_to },
-        VInstr::Return { .. } | VInstr::Fail { .. } => Nexts::End,
-    }
-}
-
-/// The next label of the Anchor at a label, where there is one.
-#[tactic(auto, unfolding(crate::specs::Lowering::anchor_at, crate::specs::Lowering::next_at, crate::specs::Lowering::anchor_next))]
-fn anchor_at(code: &Code, label: Label) -> Option<Label>
-    ensures { result ≡ anchor_at code.now label }
-{
-    match code.places.items().get(label.0 as usize) {
-        None => None,
-        Some(place) => match place.instr {
-            VInstr::Anchor { next, .. } => Some(next),
-            _ => None,
-        },
-    }
-}
 
 /// From the label on, the first label that is no Anchor.
 #[tactic(auto, unfolding(crate::specs::Lowering::passed, crate::specs::Lowering::past_anchors), using(crate::proofs::Passing::past_none, crate::proofs::Passing::past_zero))]
@@ -118,7 +74,7 @@ impl Search {
     }
 
     /// Finds the labels to which these edges go.
-    fn visit_all(&mut self, code: &Code, nexts: Nexts) -> Result<(), NoMemory>
+    fn visit_all(&mut self, code: &Code, nexts: Successors) -> Result<(), NoMemory>
         requires closed { IsClosed code.now }
         requires search { IsSearch code.now self.old.kept self.old.found }
         requires within { All (λ next. next.0 < length code.now.places) (listed nexts) }
@@ -128,12 +84,12 @@ impl Search {
         ensures found { OnOk result (AreLed code.now self.new.found (listed nexts)) }
     {
         match nexts {
-            Nexts::End => Ok(()),
-            Nexts::One { next } => {
+            Successors::End => Ok(()),
+            Successors::One { next } => {
                 self.visit(code, next)?;
                 Ok(())
             }
-            Nexts::Two { then_to, else_to } => {
+            Successors::Two { then_to, else_to } => {
                 self.visit(code, then_to)?;
                 self.visit(code, else_to)?;
                 Ok(())
@@ -151,7 +107,7 @@ impl Search {
         ensures followed { OnOk result (IsFollowed code.now self.new.found label) }
     {
         let place = &code.places.items()[label.0 as usize];
-        self.visit_all(code, edges_of(&place.instr))?;
+        self.visit_all(code, place.instr.successors())?;
         Ok(())
     }
 }

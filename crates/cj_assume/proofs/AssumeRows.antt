@@ -2,11 +2,12 @@
 use Rattle.std.proofs.Common.{◌≡◌, ◌≢◌, ℕ, zero, suc, ◌+◌, ◌≤◌, ◌⊎◌, Option, Some, None, refl, sym, ◌∙◌, subst, inl, inr, ⊎_elim, arith}
 use Rattle.std.proofs.lemmas.Option.{same_Some, none-some, slice_get_within}
 use Rattle.cj_ir.specs.declared.language.Label.{Label}
+use Rattle.cj_ir.proofs.Labels.{label_cases}
 use Rattle.cj_draft.specs.declared.code.Code.{Code}
 use Rattle.cj_draft.specs.Sound.{RowWithin}
 use Rattle.cj_rows.specs.Rows.{guard_at, guards_after, guards_before, fresh_row}
 use Rattle.cj_rows.proofs.GuardRows.{after_some}
-use Rattle.cj_rows.proofs.RowLemmas.{has_guard, no_row, one_row, row_next, row_ends, row_within, exact_row, Leads, no_cycle, label_cases, leads_before}
+use Rattle.cj_rows.proofs.RowLemmas.{has_guard, no_row, one_row, row_next, row_ends, row_within, exact_row, Leads, no_cycle, leads_before}
 
 -- where the guards are the same, so are the rows
 pub row_same : (code code' : Code) → ((x : Label) → guard_at code' x ≡ guard_at code x) → (n : ℕ) (x : Label) → RowWithin code n x → RowWithin code' n x

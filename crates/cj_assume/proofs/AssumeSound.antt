@@ -8,71 +8,34 @@ use Rattle.cj_ir.specs.declared.language.FunId.{FunId}
 use Rattle.cj_ir.specs.declared.language.Label.{Label}
 use Rattle.cj_ir.specs.declared.language.Program.{Program}
 use Rattle.cj_ir.specs.declared.language.Guard.{Guard}
+use Rattle.cj_ir.proofs.Labels.{label_cases, same_label}
 use Rattle.cj_draft.specs.declared.facts.Fact.{Fact}
 use Rattle.cj_draft.specs.declared.instructions.VInstr.{VInstr}
-use Rattle.cj_draft.specs.declared.instructions.VInstr.TheVariants.{Nop, Op, Move, Cond, Call, Return, Print, Load, Store, Fail, Assume, Anchor}
+use Rattle.cj_draft.specs.declared.instructions.VInstr.TheVariants.{Anchor}
 use Rattle.cj_draft.specs.declared.code.Place.{Place}
 use Rattle.cj_draft.specs.declared.code.Code.{Code}
 use Rattle.cj_draft.specs.declared.passes.Skipped.{Skipped}
 use Rattle.cj_draft.specs.WellNamed.{WellNamed, IsGuardWithin, IsVInstrFine, IsPlaceFine}
 use Rattle.cj_draft.specs.Arrives.{place_at}
 use Rattle.cj_draft.specs.Sound.{Sound, guard_next, RowWithin}
-use Rattle.cj_draft.proofs.Lists.{at_index, all_at, all_from}
+use Rattle.cj_draft.proofs.Lists.{at_index, all_from, fine_of}
 use Rattle.cj_draft.proofs.SamePlaces.{KeepsPlaces}
 use Rattle.cj_draft.proofs.Immediate as direct
 use Rattle.cj_draft.proofs.MoreGuards as more
-use Rattle.cj_rows.specs.Rows.{guard_in, guard_at}
+use Rattle.cj_draft.specs.Edges.{fresh_label}
+use Rattle.cj_draft.proofs.Wider.{place_wider}
+use Rattle.cj_draft.proofs.EdgeLemmas.{guard_next_within}
+use Rattle.cj_rows.specs.Rows.{guard_in, guard_at, anchor_at, anchor_in, anchor_next}
 use Rattle.cj_rows.proofs.ListReads.{get-set_same, get-set_other, get-append_left, get-append_end}
-use Rattle.cj_rows.proofs.RowLemmas.{guard_place, has_guard, label_cases}
-use Rattle.cj_assume.specs.ImmediateAssume.{anchor_next, next_in, anchor_at, guards_at, full_offence, assume_offence, with_instr, with_places, with_more, appended_in, appended, anchor_to, assume_of, fresh_label, inserted_in, inserted, assumed_by, assumed_after, assumed, unless, assumed_or_left}
+use Rattle.cj_rows.proofs.RowLemmas.{guard_place, has_guard}
+use Rattle.cj_assume.specs.ImmediateAssume.{guards_at, full_offence, assume_offence, with_instr, with_places, with_more, appended_in, appended, anchor_to, assume_of, inserted_in, inserted, assumed_by, assumed_after, assumed, unless, assumed_or_left}
 use Rattle.cj_assume.proofs.Conditions.{CanAssume, can_assume, HasAssume, has_assume, guards_within, room_for_more, HasRoom, room_for_fresh}
 use Rattle.cj_assume.proofs.AssumeRows.{row_same, HasGuardsAfter, rows_after}
-
--- an instruction names as much in a longer code
-fine_longer : (P : Program) (regs n n' : ℕ) → n ≤ n' → (i : VInstr) → IsVInstrFine P regs n i → IsVInstrFine P regs n' i
-fine_longer P regs n n' le (Nop x) h = omega arith
-fine_longer P regs n n' le (Op d e x) h = let w : x.0 < n = h.2 in (h.0, h.1, omega arith)
-fine_longer P regs n n' le (Move ps x) h = let w : x.0 < n = h.1 in (h.0, omega arith)
-fine_longer P regs n n' le (Cond t x y) h = let v : x.0 < n = h.1 in let w : y.0 < n = h.2 in (h.0, omega arith, omega arith)
-fine_longer P regs n n' le (Call d f args x) h = let w : x.0 < n = h.3 in (h.0, h.1, h.2, omega arith)
-fine_longer P regs n n' le (Return v) h = h
-fine_longer P regs n n' le (Print v x) h = let w : x.0 < n = h.1 in (h.0, omega arith)
-fine_longer P regs n n' le (Load d a x) h = let w : x.0 < n = h.2 in (h.0, h.1, omega arith)
-fine_longer P regs n n' le (Store a v x) h = let w : x.0 < n = h.2 in (h.0, h.1, omega arith)
-fine_longer P regs n n' le (Fail f l) h = h
-fine_longer P regs n n' le (Assume gs b t x) h = let w : x.0 < n = h.4 in (h.0, h.1, h.2, h.3, omega arith)
-fine_longer P regs n n' le (Anchor b t x) h = let w : x.0 < n = h.2 in (h.0, h.1, omega arith)
-
-place_longer : (P : Program) (regs n n' : ℕ) → n ≤ n' → (p : Place) → IsPlaceFine P regs n p → IsPlaceFine P regs n' p
-place_longer P regs n n' le p fine = record {
-  instr = fine_longer P regs n n' le p.instr fine.instr;
-  point = fine.point;
-  facts = fine.facts;
-  backs = fine.backs;
-}
 
 -- a place with another instruction is fine where that is
 place_with : (P : Program) (regs n n' : ℕ) (p : Place) (i : VInstr) → IsPlaceFine P regs n p → IsVInstrFine P regs n' i → IsPlaceFine P regs n' (with_instr i p)
 unfolding with_instr
 place_with P regs n n' p i fine h = record { instr = h; point = fine.point; facts = fine.facts; backs = fine.backs }
-
-fine_of : (P : Program) (code : Code) → WellNamed P code → (x : Label) (p : Place) → place_at code x ≡ Some p → IsPlaceFine P code.regs (length code.places) p
-fine_of P code named x p at = all_at (IsPlaceFine P code.regs (length code.places)) code.places x.0 p named.places at
-
-guard_next_within : (P : Program) (regs n : ℕ) (i : VInstr) (y : Label) → IsVInstrFine P regs n i → guard_next i ≡ Some y → y.0 < n
-unfolding guard_next
-guard_next_within P regs n (Assume g b t x) y h is = subst (λ (z : Label). z.0 < n) (same_Some x y is) h.4
-guard_next_within P regs n (Anchor b t x) y h is = subst (λ (z : Label). z.0 < n) (same_Some x y is) h.2
-guard_next_within P regs n (Nop x) y h is = absurd (none-some y is)
-guard_next_within P regs n (Op d e x) y h is = absurd (none-some y is)
-guard_next_within P regs n (Move ps x) y h is = absurd (none-some y is)
-guard_next_within P regs n (Cond t x z) y h is = absurd (none-some y is)
-guard_next_within P regs n (Call d g args x) y h is = absurd (none-some y is)
-guard_next_within P regs n (Return v) y h is = absurd (none-some y is)
-guard_next_within P regs n (Print v x) y h is = absurd (none-some y is)
-guard_next_within P regs n (Load d a x) y h is = absurd (none-some y is)
-guard_next_within P regs n (Store a v x) y h is = absurd (none-some y is)
-guard_next_within P regs n (Fail g l) y h is = absurd (none-some y is)
 
 -- ---- further guards of an Assume
 
@@ -97,13 +60,7 @@ module _ (P : Program) (context : List Fact) (f : FunId) (code : Code) (l : Labe
 
   else1 : (x : Label) → x ≢ l → place_at code1 x ≡ place_at code x
   unfolding code1 with_places
-  else1 x ne = get-set_other code.places l.0 x.0 grown (λ e. ne (label_is x l e))
-    where
-      label_is : (x y : Label) → x.0 ≡ y.0 → x ≡ y
-      label_is x y e = ap label e
-        where
-          label : ℕ → Label
-          label n = record { 0 = n }
+  else1 x ne = get-set_other code.places l.0 x.0 grown (λ e. ne (same_label x l e))
 
   was1 : (x : Label) (p' : Place) → place_at code1 x ≡ Some p' → (place_at code x ≡ Some p') ⊎ (grown ≡ p')
   was1 x p' at = ⊎_elim
@@ -157,7 +114,7 @@ module _ (P : Program) (context : List Fact) (f : FunId) (code : Code) (l : Labe
     entry = omega (arith, same_length, sound.named.entry);
     places = all_from (IsPlaceFine P code.regs (length code1.places)) code1.places (λ i p' at.
         ⊎_elim
-        (λ old. place_longer P code.regs (length code.places) (length code1.places) (omega (arith, same_length)) p' (fine_of P code sound.named (label i) p' old))
+        (λ old. place_wider P code.regs code.regs (length code.places) (length code1.places) (omega arith) (omega (arith, same_length)) p' (fine_of P code sound.named (label i) p' old))
         (λ new. subst (IsPlaceFine P code.regs (length code1.places)) new grown_fine)
         (was1 (label i) p' at));
   }
@@ -222,15 +179,9 @@ module _ (P : Program) (context : List Fact) (f : FunId) (code : Code) (a : Labe
   unfolding code2 with_places s fresh_label
   at_s = subst (λ k. slice_get (slice_set code.places a.0 led ++ fresh ∷ []) k ≡ Some fresh) (length-set code.places a.0 led) (get-append_end (slice_set code.places a.0 led) fresh)
 
-  label_is : (x y : Label) → x.0 ≡ y.0 → x ≡ y
-  label_is x y e = ap label e
-    where
-      label : ℕ → Label
-      label n = record { 0 = n }
-
   else2 : (x : Label) (p : Place) → x ≢ a → place_at code x ≡ Some p → place_at code2 x ≡ Some p
   unfolding code2 with_places
-  else2 x p ne at = get-append_left (slice_set code.places a.0 led) (fresh ∷ []) x.0 p (get-set_other code.places a.0 x.0 led (λ e. ne (label_is x a e)) ∙ at)
+  else2 x p ne at = get-append_left (slice_set code.places a.0 led) (fresh ∷ []) x.0 p (get-set_other code.places a.0 x.0 led (λ e. ne (same_label x a e)) ∙ at)
 
   kept2 : KeepsPlaces code code2
   unfolding led direct.anchor_to
@@ -248,7 +199,7 @@ module _ (P : Program) (context : List Fact) (f : FunId) (code : Code) (a : Labe
       (λ e. inr (inr (same_Some fresh p' (sym at_s ∙ ap (place_at code2) (sym e) ∙ at))))
       (λ other.
       let inside : x.0 < length code2.places = slice_get_within code2.places x.0 p' at in
-      let differs : x.0 ≢ s.0 = λ e. other (label_is x s e) in
+      let differs : x.0 ≢ s.0 = λ e. other (same_label x s e) in
       let less : x.0 < length code.places = omega (arith, longer, n-of_s) in
       let old = at_index code.places x.0 less in
       inl (old.1 ∙ ap Some (same_Some old.0 p' (sym (else2 x old.0 ne old.1) ∙ at))))
@@ -304,7 +255,7 @@ module _ (P : Program) (context : List Fact) (f : FunId) (code : Code) (a : Labe
     entry = omega (arith, longer, sound.named.entry);
     places = all_from (IsPlaceFine P code.regs (length code2.places)) code2.places (λ i p' at.
         ⊎_elim
-        (λ old. place_longer P code.regs (length code.places) (length code2.places) (omega (arith, longer)) p' (fine_of P code sound.named (label i) p' old))
+        (λ old. place_wider P code.regs code.regs (length code.places) (length code2.places) (omega arith) (omega (arith, longer)) p' (fine_of P code sound.named (label i) p' old))
         (λ new. ⊎_elim
         (λ e. subst (IsPlaceFine P code.regs (length code2.places)) e led_fine)
         (λ e. subst (IsPlaceFine P code.regs (length code2.places)) e fresh_fine) new)
@@ -331,7 +282,7 @@ module _ (P : Program) (context : List Fact) (f : FunId) (code : Code) (a : Labe
               past : (x : Label) → x ≢ s → place_at code x ≡ None → (p' : Place) → place_at code2 x ≡ Some p' → ⊥
               past x other e p' at =
                   let inside : x.0 < length code2.places = slice_get_within code2.places x.0 p' at in
-                  let differs : x.0 ≢ s.0 = λ is. other (label_is x s is) in
+                  let differs : x.0 ≢ s.0 = λ is. other (same_label x s is) in
                   let less : x.0 < length code.places = omega (arith, longer, n-of_s) in
                   let old = at_index code.places x.0 less in
                   none-some old.0 (sym e ∙ old.1)
@@ -378,8 +329,8 @@ module _ (P : Program) (context : List Fact) (f : FunId) (code : Code) (a : Labe
 -- ---- both
 
 pub anchor_is : (code : Code) (a : Label) (gs : List Guard) (can : CanAssume code a gs) → anchor_at code a ≡ Some can.next
-unfolding anchor_at next_in anchor_next
-anchor_is code a gs can = ap next_in can.at ∙ ap anchor_next can.instr
+unfolding anchor_at anchor_in anchor_next
+anchor_is code a gs can = ap anchor_in can.at ∙ ap anchor_next can.instr
 
 pub assumed_sound : (P : Program) (context : List Fact) (f : FunId) (code : Code) (a : Label) (gs : List Guard) → assume_offence code a gs ≡ None → Sound P context f code → Sound P context f (assumed code a gs)
 unfolding assumed assumed_after assumed_by

@@ -5,17 +5,19 @@ use Rattle.std.proofs.lemmas.Option.{none-some, slice_get_within}
 use Rattle.std.proofs.lemmas.List.{length-set}
 use Rattle.cj_ir.specs.declared.language.Label.{Label}
 use Rattle.cj_ir.specs.declared.language.Guard.{Guard}
+use Rattle.cj_ir.proofs.Labels.{same_label}
 use Rattle.cj_draft.specs.declared.instructions.VInstr.{VInstr}
 use Rattle.cj_draft.specs.declared.code.Place.{Place}
 use Rattle.cj_draft.specs.declared.code.Code.{Code}
+use Rattle.cj_draft.specs.Edges.{fresh_label}
 use Rattle.cj_rows.proofs.ListReads.{get-set_same, get-set_other, get-append_left, get-append_end}
-use Rattle.cj_rows.proofs.RowLemmas.{same_label}
-use Rattle.cj_assume.specs.ImmediateAssume.{anchor_next, next_in, anchor_at, guard_count, count_in, guards_at, assume_offence, with_instr, with_places, with_more, appended_in, appended, anchor_to, assume_of, fresh_label, inserted_in, inserted, assumed_by, assumed_after, assumed, IsAfter, HasGuardsNext}
+use Rattle.cj_rows.specs.Rows.{anchor_at, anchor_in, anchor_next}
+use Rattle.cj_assume.specs.ImmediateAssume.{guard_count, count_in, guards_at, assume_offence, with_instr, with_places, with_more, appended_in, appended, anchor_to, assume_of, inserted_in, inserted, assumed_by, assumed_after, assumed, IsAfter, HasGuardsNext}
 use Rattle.cj_assume.proofs.Conditions.{CanAssume, can_assume, has_assume}
 use Rattle.cj_assume.proofs.AssumeSound.{anchor_is, not_left}
 
 appended_guards : (code : Code) (a : Label) (gs : List Guard) (can : CanAssume code a gs) (count : ℕ) → guards_at code can.next ≡ Some count → HasGuardsNext (appended code can.next gs) a gs
-unfolding appended appended_in with_places with_instr with_more anchor_at next_in anchor_next guards_at count_in guard_count
+unfolding appended appended_in with_places with_instr with_more anchor_at anchor_in anchor_next guards_at count_in guard_count
 appended_guards code a gs can count e =
     let l = can.next in
     let has = has_assume code l count e in
@@ -26,7 +28,7 @@ appended_guards code a gs can count e =
     let here : slice_get (slice_set code.places l.0 grown) l.0 ≡ Some grown = get-set_same code.places l.0 grown (slice_get_within code.places l.0 has.place has.at) in
     subst (λ (k : Code). HasGuardsNext k a gs) (sym is) (record {
       next = l;
-      after = ap next_in there ∙ ap anchor_next can.instr;
+      after = ap anchor_in there ∙ ap anchor_next can.instr;
       place = grown;
       at = here;
       own = has.guards;
@@ -40,7 +42,7 @@ appended_guards code a gs can count e =
     apart count e = none-some count (sym (ap count_in can.at ∙ ap guard_count can.instr) ∙ e)
 
 inserted_guards : (code : Code) (a : Label) (gs : List Guard) → CanAssume code a gs → HasGuardsNext (inserted code a gs) a gs
-unfolding inserted inserted_in with_places with_instr anchor_to assume_of fresh_label anchor_at next_in anchor_next
+unfolding inserted inserted_in with_places with_instr anchor_to assume_of fresh_label anchor_at anchor_in anchor_next
 inserted_guards code a gs can =
     let led : Place = with_instr (anchor_to (fresh_label code) can.place.instr) can.place in
     let fresh : Place = with_instr (assume_of gs can.place.instr) can.place in
@@ -50,7 +52,7 @@ inserted_guards code a gs can =
     let here : slice_get (places ++ fresh ∷ []) (length code.places) ≡ Some fresh = subst (λ k. slice_get (places ++ fresh ∷ []) k ≡ Some fresh) (length-set code.places a.0 led) (get-append_end places fresh) in
     subst (λ (k : Code). HasGuardsNext k a gs) (sym is) (record {
       next = fresh_label code;
-      after = ap next_in there ∙ ap (λ (i : VInstr). anchor_next (anchor_to (fresh_label code) i)) can.instr;
+      after = ap anchor_in there ∙ ap (λ (i : VInstr). anchor_next (anchor_to (fresh_label code) i)) can.instr;
       place = fresh;
       at = here;
       own = [];

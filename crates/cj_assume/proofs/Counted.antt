@@ -13,7 +13,8 @@ use Rattle.cj_draft.specs.declared.code.Place.{Place}
 use Rattle.cj_draft.specs.declared.code.Code.{Code}
 use Rattle.cj_links.specs.EdgeTable.{EdgeTable, label_of, list_of, IsBetween, edges_into, given}
 use Rattle.std.proofs.lemmas.List.FromFn.{get_or-map-range_with_len}
-use Rattle.cj_assume.specs.DelayedAssume.{successors, is_label, all_nexts}
+use Rattle.cj_draft.specs.Edges.{successors}
+use Rattle.cj_assume.specs.DelayedAssume.{is_label, all_nexts}
 use Rattle.cj_assume.specs.CountedEdges.{edges_from, edges_of, AreCounted}
 
 -- ---- how many

@@ -1,5 +1,5 @@
 -- An Assume at the end of a path keeps that a code is sound.
-use Rattle.std.proofs.Common.{◌≡◌, ◌≢◌, ℕ, zero, suc, ◌+◌, ◌-◌, ◌<◌, ◌≤◌, ◌⊎◌, Bool, true, false, cond, List, [], ◌∷◌, ◌++◌, length, Option, Some, None, refl, sym, ap, ◌∙◌, subst, inl, inr, ⊎_elim, arith, length-append, length-set, eq-eqb}
+use Rattle.std.proofs.Common.{◌≡◌, ◌≢◌, ℕ, zero, suc, ◌+◌, ◌-◌, ◌<◌, ◌≤◌, ◌⊎◌, Bool, true, false, cond, List, [], ◌∷◌, ◌++◌, length, Option, Some, None, refl, sym, ap, ◌∙◌, subst, inl, inr, ⊎_elim, arith, length-append, length-set}
 use Rattle.std.specs.Prelude.{ℤ, slice_get, slice_set, Contains, All}
 use Rattle.std.specs.Option.{option_map}
 use Rattle.std.proofs.lemmas.Option.{same_Some, none-some, slice_get_within, slice_get_past}
@@ -21,7 +21,7 @@ use Rattle.cj_draft.specs.Arrives.{place_at, Arrives, instr_of}
 use Rattle.cj_draft.specs.declared.points.PointFrame.{PointFrame}
 use Rattle.cj_draft.specs.Sound.{Sound, pair_of, IsOwn, IsSilentIn, IsCarried, SoundEffect, guard_next, RowWithin}
 use Rattle.cj_draft.specs.Relabel.{relabel}
-use Rattle.cj_draft.proofs.Lists.{at_index, all_at, all_from}
+use Rattle.cj_draft.proofs.Lists.{at_index, all_from, fine_of}
 use Rattle.cj_draft.specs.Points.{top_of, stack_of, frames_of}
 use Rattle.cj_draft.specs.Effects.{Plain, version_effect}
 use Rattle.cj_base.specs.Machine.{Stack, Fault, BadAddress, ZeroDivisor, Effect, On, with_value, cell, with_cell, branch, op_effect, load_effect, store_effect}
@@ -29,32 +29,27 @@ use Rattle.cj_base.specs.Run.{IsSilent}
 use Rattle.cj_ir.specs.Values.{operand_value, expr_value}
 use Rattle.cj_ir.specs.declared.language.Instr.{Instr}
 use Rattle.cj_ir.specs.declared.language.Instr.TheVariants as base
+use Rattle.cj_ir.proofs.Members.{contains-head}
+use Rattle.cj_ir.proofs.Labels.{same_label, label_cases}
 use Rattle.cj_draft.proofs.Ways.{silent-relabel}
 use Rattle.cj_draft.proofs.Insert.{IsKept, IsInserted, NewOn, inserted_sound}
 use Rattle.cj_draft.proofs.Rows.{guard_next-relabel, rows_inserted}
+use Rattle.cj_draft.specs.Edges.{successors, led_to, fresh_label}
+use Rattle.cj_draft.proofs.EdgeLemmas.{relabel_none, relabel_fine, guard_successor, led-same, led-other}
 use Rattle.cj_rows.specs.Rows.{guard_in, guard_at}
 use Rattle.cj_rows.proofs.ListReads.{get-set_same, get-set_other, get-append_left, get-append_end, contains-at}
-use Rattle.cj_rows.proofs.GuardRows.{differ-eqb}
-use Rattle.cj_rows.proofs.RowLemmas.{has_guard, guard_place, label_cases}
+use Rattle.cj_rows.proofs.RowLemmas.{has_guard, guard_place}
 use Rattle.cj_rows.proofs.InsertedRows.{HasGuardsOf, rows_through}
-use Rattle.cj_assume.specs.ImmediateAssume.{with_instr, fresh_label}
-use Rattle.cj_assume.specs.DelayedAssume.{successors, is_silent, base_in, base_at, is_turn, turn_in, passed_in, is_passed, on_path, turn_at, turns_before, turns_back, path_pair, with_backs, if_label, led_to, led_edge, fresh_place, delayed, IsDelayed}
+use Rattle.cj_assume.specs.ImmediateAssume.{with_instr}
+use Rattle.cj_assume.specs.DelayedAssume.{is_silent, base_in, base_at, is_turn, turn_in, passed_in, is_passed, on_path, turn_at, turns_before, turns_back, path_pair, with_backs, led_edge, fresh_place, delayed, IsDelayed}
 use Rattle.cj_assume.specs.CountedEdges.{AreNextsWithin}
 use Rattle.cj_assume.specs.DelaySteps.{IsPathIn}
 use Rattle.cj_assume.proofs.DelayConditions.{CanDelay, IsStep, path_in}
-use Rattle.cj_assume.proofs.PathSteps.{same_label, turns_more, turns_first}
-use Rattle.cj_assume.proofs.OneEdge.{head_in, branch_in, only_edge, entry_other, named_within, next_within, relabel_none, relabel_fine, guard_successor}
-use Rattle.cj_assume.proofs.WithPairs.{with_old, with_new, with_only}
+use Rattle.cj_assume.proofs.PathSteps.{turns_more, turns_first}
+use Rattle.cj_assume.proofs.OneEdge.{branch_in, only_edge, entry_other, named_within, next_within}
+use Rattle.cj_rows.proofs.WithPairs.{with_old, with_new, with_only}
 
 -- ---- where edges go
-
-pub led-same : (l a x : Label) → x ≡ l → led_to l a x ≡ a
-unfolding led_to if_label
-led-same l a x e = ap (λ b. if_label b a x) (eq-eqb x.0 l.0 (ap (λ (y : Label). y.0) e))
-
-pub led-other : (l a x : Label) → x ≢ l → led_to l a x ≡ x
-unfolding led_to if_label
-led-other l a x ne = ap (λ b. if_label b a x) (differ-eqb x.0 l.0 (λ e. ne (same_label x l e)))
 
 -- of a label that passes, or an Anchor, all edges are led
 led_all : (P : Program) (point : Point) (l a : Label) (i : VInstr) → is_passed P point i ≡ true → led_edge l a i ≡ relabel (led_to l a) i
@@ -384,12 +379,9 @@ module _ (P : Program) (context : List Fact) (f : FunId) (code : Code) (path : L
 
   -- ---- names
 
-  fine_of : (x : Label) (p : Place) → place_at code x ≡ Some p → IsPlaceFine P code.regs (length code.places) p
-  fine_of x p at = all_at (IsPlaceFine P code.regs (length code.places)) code.places x.0 p sound.named.places at
-
   target_fine : IsPointFine P code.regs d.is.target
   target_fine =
-      let fine = subst (IsVInstrFine P code.regs (length code.places)) d.is.is_anchor (fine_of (on_path path 0) d.is.anchor d.is.at_first).instr in
+      let fine = subst (IsVInstrFine P code.regs (length code.places)) d.is.is_anchor (fine_of P code sound.named (on_path path 0) d.is.anchor d.is.at_first).instr in
       fine.1
 
   pair_fine : (at : ℕ) → 0 < at → at < length path → IsBackFine P code.regs (pair at)
@@ -414,7 +406,7 @@ module _ (P : Program) (context : List Fact) (f : FunId) (code : Code) (path : L
 
   old_fine : (x : Label) (p p' : Place) → place_at code x ≡ Some p → IsKept r (New x) p p' → IsPlaceFine P code.regs (length code'.places) p'
   old_fine x p p' at k =
-      let fine = fine_of x p at in
+      let fine = fine_of P code sound.named x p at in
       record {
         instr = subst (IsVInstrFine P code.regs (length code'.places)) (sym k.instr)
             (relabel_fine P code.regs (length code.places) r (length code'.places) p.instr (λ y c. led_within y (next_within code x p y closed at c)) fine.instr);
@@ -426,7 +418,7 @@ module _ (P : Program) (context : List Fact) (f : FunId) (code : Code) (path : L
   fresh_fine : IsPlaceFine P code.regs (length code'.places) fresh
   unfolding fresh_place
   fresh_fine =
-      let fine = fine_of e d.is.last d.is.at_last in
+      let fine = fine_of P code sound.named e d.is.last d.is.at_last in
       let long = d.can.long in
       record {
         instr = (d.can.few, d.can.registers, short, target_fine, omega (arith, length-new, e_in));
@@ -576,7 +568,7 @@ module _ (P : Program) (context : List Fact) (f : FunId) (code : Code) (path : L
       (λ first. absurd (no_anchor first.1))
       (λ later.
       let step = turns_step x p from.k true at from.here turn later.0 (omega (arith, from.within)) in
-      let some = (fine_of x p at).point.some_frame in
+      let some = (fine_of P code sound.named x p at).point.some_frame in
       let base = silent_is (base_in P p.point.frames) (quiet later.1) in
       record {
         instr = subst IsSilentIn (sym kept.instr) (silent-relabel r p.instr silent);
@@ -609,21 +601,21 @@ module _ (P : Program) (context : List Fact) (f : FunId) (code : Code) (path : L
 
     new_on : (i : VInstr) → p.instr ≡ i → SoundEffect P code p regs m (version_effect i regs m) → NewOn P code r New p' regs (version_effect i regs m)
     unfolding version_effect op_effect load_effect store_effect successors is_passed is_turn IsSilentIn
-    new_on (Nop next) is s = λ st a q new. inr (carried x p p' q regs at at' kept (ap is_turn is) (subst IsSilentIn (sym is) tt) (λ h. let f : Nop next ≡ Anchor d.is.number d.is.target d.is.next = sym is ∙ h in cc) (λ h. ap (is_passed P p.point) (sym is) ∙ h) (comes (Nop next) next q is (head_in next []) new))
+    new_on (Nop next) is s = λ st a q new. inr (carried x p p' q regs at at' kept (ap is_turn is) (subst IsSilentIn (sym is) tt) (λ h. let f : Nop next ≡ Anchor d.is.number d.is.target d.is.next = sym is ∙ h in cc) (λ h. ap (is_passed P p.point) (sym is) ∙ h) (comes (Nop next) next q is (contains-head next []) new))
     new_on (Cond t a b) is s = λ st arr q new. inr (carried x p p' q regs at at' kept (ap is_turn is) (subst IsSilentIn (sym is) tt) (λ h. let f : Cond t a b ≡ Anchor d.is.number d.is.target d.is.next = sym is ∙ h in cc) (λ h. ap (is_passed P p.point) (sym is) ∙ h) (comes (Cond t a b) (branch (operand_value regs t) a b) q is (branch_in (operand_value regs t) a b) new))
-    new_on (Assume g b t next) is s = λ h st a q new. inr (guarded_pair x p p' q at at' kept (ap is_turn is) (comes (Assume g b t next) next q is (head_in next []) new) (λ h. let f : Assume g b t next ≡ Anchor d.is.number d.is.target d.is.next = sym is ∙ h in absurd (cc)))
-    new_on (Anchor b t next) is s = λ h st a q new. inr (guarded_pair x p p' q at at' kept (ap is_turn is) (comes (Anchor b t next) next q is (head_in next []) new) (λ h.
+    new_on (Assume g b t next) is s = λ h st a q new. inr (guarded_pair x p p' q at at' kept (ap is_turn is) (comes (Assume g b t next) next q is (contains-head next []) new) (λ h. let f : Assume g b t next ≡ Anchor d.is.number d.is.target d.is.next = sym is ∙ h in absurd (cc)))
+    new_on (Anchor b t next) is s = λ h st a q new. inr (guarded_pair x p p' q at at' kept (ap is_turn is) (comes (Anchor b t next) next q is (contains-head next []) new) (λ h.
         let same : Anchor b t next ≡ Anchor d.is.number d.is.target d.is.next = sym is ∙ h in
         let number : b ≡ d.is.number = cc in
         let target : t ≡ d.is.target = cc in
         subst (λ (y : Point). Contains p.backs (pair_of d.is.number y)) target (subst (λ k. Contains p.backs (pair_of k t)) number s.target_in)))
-    new_on (Op dest expr next) is s = value_new p' regs (expr_value regs expr) ZeroDivisor (λ v. On next (slice_set regs dest.0 v) m []) (λ v st a q new. lost (Op dest expr next) next q is refl (head_in next []) new)
-    new_on (Move pairs next) is s = λ st a q new. lost (Move pairs next) next q is refl (head_in next []) new
-    new_on (Call dest g args next) is s = λ v st a q new. lost (Call dest g args next) next q is refl (head_in next []) new
+    new_on (Op dest expr next) is s = value_new p' regs (expr_value regs expr) ZeroDivisor (λ v. On next (slice_set regs dest.0 v) m []) (λ v st a q new. lost (Op dest expr next) next q is refl (contains-head next []) new)
+    new_on (Move pairs next) is s = λ st a q new. lost (Move pairs next) next q is refl (contains-head next []) new
+    new_on (Call dest g args next) is s = λ v st a q new. lost (Call dest g args next) next q is refl (contains-head next []) new
     new_on (Return value) is s = tt
-    new_on (Print value next) is s = λ st a q new. lost (Print value next) next q is refl (head_in next []) new
-    new_on (Load dest address next) is s = value_new p' regs (cell m (operand_value regs address)) (BadAddress (operand_value regs address)) (λ v. On next (slice_set regs dest.0 v) m []) (λ v st a q new. lost (Load dest address next) next q is refl (head_in next []) new)
-    new_on (Store address value next) is s = value_new p' regs (cell m (operand_value regs address)) (BadAddress (operand_value regs address)) (λ w. On next regs (with_cell m (operand_value regs address) (operand_value regs value)) []) (λ w st a q new. lost (Store address value next) next q is refl (head_in next []) new)
+    new_on (Print value next) is s = λ st a q new. lost (Print value next) next q is refl (contains-head next []) new
+    new_on (Load dest address next) is s = value_new p' regs (cell m (operand_value regs address)) (BadAddress (operand_value regs address)) (λ v. On next (slice_set regs dest.0 v) m []) (λ v st a q new. lost (Load dest address next) next q is refl (contains-head next []) new)
+    new_on (Store address value next) is s = value_new p' regs (cell m (operand_value regs address)) (BadAddress (operand_value regs address)) (λ w. On next regs (with_cell m (operand_value regs address) (operand_value regs value)) []) (λ w st a q new. lost (Store address value next) next q is refl (contains-head next []) new)
     new_on (Fail g l) is s = tt
 
   first_own : (regs : List ℤ) (st : Stack) (a : Arrives P code code.entry regs st) (q : Back) → New (r code.entry) q → IsOwn P a.place regs q

@@ -16,7 +16,7 @@ use Rattle.cj_draft.specs.Arrives.{place_at}
 use Rattle.cj_draft.proofs.Lists.{at_index}
 use Rattle.cj_rows.specs.Pairs.{AreWith}
 use Rattle.cj_assume.specs.DelayedAssume.{on_path, turns_back, path_pair, with_backs, AreMarked, fresh_place, delayed, IsDelayed, IsAfterDelay}
-use Rattle.cj_assume.proofs.WithPairs.{with_alike}
+use Rattle.cj_rows.proofs.WithPairs.{with_alike}
 use Rattle.cj_assume.proofs.DelayedSound.{find}
 
 -- what stands at a label of marked places

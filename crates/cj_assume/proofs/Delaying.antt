@@ -8,7 +8,8 @@ use Rattle.cj_draft.specs.declared.instructions.VInstr.TheVariants.{Assume, Anch
 use Rattle.cj_draft.specs.declared.code.Place.{Place}
 use Rattle.cj_draft.specs.declared.code.Code.{Code}
 use Rattle.cj_draft.specs.Arrives.{place_at}
-use Rattle.cj_assume.specs.ImmediateAssume.{with_instr, with_places, fresh_label}
+use Rattle.cj_draft.specs.Edges.{fresh_label}
+use Rattle.cj_assume.specs.ImmediateAssume.{with_instr, with_places}
 use Rattle.cj_assume.specs.DelayedAssume.{on_path, turns_back, path_pair, AreMarked, led_edge, delayed, IsDelayed}
 use Rattle.cj_assume.specs.DelaySteps.{IsFreshPlace, IsLed}
 

@@ -6,7 +6,6 @@ pub mod Counted
 pub mod PathSteps
 pub mod DelayConditions
 pub mod OneEdge
-pub mod WithPairs
 pub mod DelayedSound
 pub mod Marking
 pub mod Delaying

@@ -4,6 +4,7 @@ use Rattle.std.specs.Prelude.{slice_get, slice_set}
 use Rattle.std.proofs.lemmas.Option.{same_Some}
 use Rattle.std.proofs.lemmas.Bool.{cases_eq}
 use Rattle.cj_ir.specs.declared.language.Label.{Label}
+use Rattle.cj_ir.proofs.Labels.{same_label}
 use Rattle.cj_draft.specs.declared.points.Point.{Point}
 use Rattle.cj_draft.specs.declared.code.Back.{Back}
 use Rattle.cj_draft.specs.declared.code.Place.{Place}
@@ -15,7 +16,7 @@ use Rattle.cj_rows.proofs.ListReads.{get-set_same, get-set_other}
 use Rattle.cj_assume.specs.ImmediateAssume.{with_places}
 use Rattle.cj_assume.specs.DelayedAssume.{on_path, turn_in, turn_at, turns_before, path_pair, with_backs, AreMarked}
 use Rattle.cj_assume.specs.DelaySteps.{IsPathIn, IsMarkedAt}
-use Rattle.cj_assume.proofs.PathSteps.{same_label, turns_more}
+use Rattle.cj_assume.proofs.PathSteps.{turns_more}
 
 pub mark_begins : (code : Code) (path : List Label) (target : Point) (number : ℕ) → AreMarked code path target number 1 code.places
 mark_begins code path target number = record {

@@ -1,46 +1,35 @@
 -- Where one edge goes into a label.
-use Rattle.std.proofs.Common.{◌≡◌, ◌≢◌, ℕ, zero, suc, ◌<◌, ◌≤◌, Bool, true, false, cond, List, [], ◌∷◌, length, Some, refl, sym, ap, ◌∙◌, subst, ⊎_elim, arith, eq-eqb}
+use Rattle.std.proofs.Common.{◌≡◌, ◌≢◌, ℕ, zero, suc, ◌<◌, ◌≤◌, Bool, true, false, cond, List, [], ◌∷◌, length, Some, refl, sym, ap, subst, ⊎_elim, arith, eq-eqb}
 use Rattle.std.specs.Prelude.{slice_get, count_by, All, Contains, nat_eq, ℤ, pos, if◌then◌else◌}
 use Rattle.std.specs.Ordering.{int_eq}
 use Rattle.std.proofs.lemmas.Option.{same_Some, none-some}
-use Rattle.std.proofs.lemmas.List.Elements.{All-cons, All-nil, All-append, All-contains, Contains-append_cases, Contains-append_right}
+use Rattle.std.proofs.lemmas.List.Elements.{All-nil, All-append, All-contains, Contains-append_cases, Contains-append_right}
 use Rattle.cj_ir.specs.declared.language.Label.{Label}
 use Rattle.cj_ir.specs.declared.language.Program.{Program}
+use Rattle.cj_ir.proofs.Members.{contains-none, contains-one, contains-head}
 use Rattle.cj_base.specs.Machine.{branch}
-use Rattle.cj_draft.specs.declared.instructions.VInstr.{VInstr}
-use Rattle.cj_draft.specs.declared.instructions.VInstr.TheVariants.{Nop, Op, Move, Cond, Call, Return, Print, Load, Store, Fail, Assume, Anchor}
 use Rattle.cj_draft.specs.declared.code.Place.{Place}
 use Rattle.cj_draft.specs.declared.code.Code.{Code}
 use Rattle.cj_draft.specs.Arrives.{place_at}
-use Rattle.cj_draft.specs.Relabel.{relabel}
-use Rattle.cj_draft.specs.Sound.{guard_next}
-use Rattle.cj_draft.specs.WellNamed.{WellNamed, IsVInstrFine, IsPlaceFine}
+use Rattle.cj_draft.specs.WellNamed.{WellNamed, IsPlaceFine}
 use Rattle.cj_draft.proofs.Lists.{all_at}
-use Rattle.cj_assume.specs.DelayedAssume.{successors, is_label, all_nexts, edges_into}
+use Rattle.cj_draft.specs.Edges.{successors}
+use Rattle.cj_draft.proofs.EdgeLemmas.{successors_within}
+use Rattle.cj_assume.specs.DelayedAssume.{is_label, all_nexts, edges_into}
 use Rattle.cj_assume.specs.CountedEdges.{AreNextsWithin}
 use Rattle.cj_assume.proofs.Counted.{count-append, count-cons}
 use Rattle.cj_assume.proofs.PathSteps.{nexts_contain}
-
-none_in : {X : Type 0} (x : X) → Contains [] x → ⊥
-none_in x c = let h : c.0 < 0 = c.1 in omega arith
-
-one_in : {X : Type 0} (x y : X) → Contains (x ∷ []) y → x ≡ y
-one_in x y (zero, h, e) = e
-one_in x y (suc k, h, e) = absurd (omega arith)
-
-pub head_in : {X : Type 0} (x : X) (xs : List X) → Contains (x ∷ xs) x
-head_in x xs = (0, omega arith, refl)
 
 -- ---- counts
 
 count_some : (l : Label) (xs : List Label) → Contains xs l → 1 ≤ count_by (is_label l) xs
 unfolding is_label
-count_some l [] c = absurd (none_in l c)
+count_some l [] c = absurd (contains-none l c)
 count_some l (x ∷ xs) c =
     let split = count-cons (is_label l) x xs in
     ⊎_elim
     (λ here.
-    let same : x.0 ≡ l.0 = ap (λ (y : Label). y.0) (one_in x l here) in
+    let same : x.0 ≡ l.0 = ap (λ (y : Label). y.0) (contains-one x l here) in
     let one : ◌≡◌ {A = ℕ} (cond (nat_eq x.0 l.0) 1 0) 1 = ap (λ (b : Bool). cond b 1 0) (eq-eqb x.0 l.0 same) in
     omega (arith, split, one))
     (λ more. omega (arith, split, count_some l xs more))
@@ -83,49 +72,14 @@ unfolding branch
 branch_in test a b = by_test (int_eq test (pos 0))
   where
     by_test : (is_zero : Bool) → Contains (a ∷ b ∷ []) (if is_zero then b else a)
-    by_test true = Contains-append_right (a ∷ []) (b ∷ []) b (head_in b [])
-    by_test false = head_in a (b ∷ [])
-
-module _ (P : Program) (regs n : ℕ) where
-  one : (x : Label) → x.0 < n → All (λ (y : Label). y.0 < n) (x ∷ [])
-  one x h = All-cons (λ (y : Label). y.0 < n) x [] h (All-nil (λ (y : Label). y.0 < n))
-
-  fine_within : (i : VInstr) → IsVInstrFine P regs n i → All (λ (y : Label). y.0 < n) (successors i)
-  unfolding successors
-  fine_within (Nop x) h = one x h
-  fine_within (Op d e x) h = one x h.2
-  fine_within (Move ps x) h = one x h.1
-  fine_within (Cond t x y) h = All-cons (λ (z : Label). z.0 < n) x (y ∷ []) h.1 (one y h.2)
-  fine_within (Call d f args x) h = one x h.3
-  fine_within (Return v) h = All-nil (λ (y : Label). y.0 < n)
-  fine_within (Print v x) h = one x h.1
-  fine_within (Load d a x) h = one x h.2
-  fine_within (Store a v x) h = one x h.2
-  fine_within (Fail f l) h = All-nil (λ (y : Label). y.0 < n)
-  fine_within (Assume gs b t x) h = one x h.4
-  fine_within (Anchor b t x) h = one x h.2
-
-  -- edges that are led within a code of another length
-  pub relabel_fine : (r : Label → Label) (n' : ℕ) (i : VInstr) → ((y : Label) → Contains (successors i) y → (r y).0 < n') → IsVInstrFine P regs n i → IsVInstrFine P regs n' (relabel r i)
-  unfolding successors relabel
-  relabel_fine r n' (Nop x) w h = w x (head_in x [])
-  relabel_fine r n' (Op d e x) w h = (h.0, h.1, w x (head_in x []))
-  relabel_fine r n' (Move ps x) w h = (h.0, w x (head_in x []))
-  relabel_fine r n' (Cond t x y) w h = (h.0, w x (head_in x (y ∷ [])), w y (Contains-append_right (x ∷ []) (y ∷ []) y (head_in y [])))
-  relabel_fine r n' (Call d f args x) w h = (h.0, h.1, h.2, w x (head_in x []))
-  relabel_fine r n' (Return v) w h = h
-  relabel_fine r n' (Print v x) w h = (h.0, w x (head_in x []))
-  relabel_fine r n' (Load d a x) w h = (h.0, h.1, w x (head_in x []))
-  relabel_fine r n' (Store a v x) w h = (h.0, h.1, w x (head_in x []))
-  relabel_fine r n' (Fail f l) w h = h
-  relabel_fine r n' (Assume gs b t x) w h = (h.0, h.1, h.2, h.3, w x (head_in x []))
-  relabel_fine r n' (Anchor b t x) w h = (h.0, h.1, w x (head_in x []))
+    by_test true = Contains-append_right (a ∷ []) (b ∷ []) b (contains-head b [])
+    by_test false = contains-head a (b ∷ [])
 
 nexts_within : (P : Program) (regs n : ℕ) (places : List Place) → ((i : ℕ) (p : Place) → slice_get places i ≡ Some p → IsPlaceFine P regs n p) → All (λ (y : Label). y.0 < n) (all_nexts places)
 unfolding all_nexts
 nexts_within P regs n [] fine = All-nil (λ (y : Label). y.0 < n)
 nexts_within P regs n (p ∷ places) fine =
-    All-append (λ (y : Label). y.0 < n) (successors p.instr) (all_nexts places) (fine_within P regs n p.instr (fine 0 p refl).instr)
+    All-append (λ (y : Label). y.0 < n) (successors p.instr) (all_nexts places) (successors_within P regs n p.instr (fine 0 p refl).instr)
     (nexts_within P regs n places (λ i q at. fine (suc i) q at))
 
 pub named_within : (P : Program) (code : Code) → WellNamed P code → AreNextsWithin code.places
@@ -137,34 +91,3 @@ pub next_within : (code : Code) (x : Label) (p : Place) (next : Label) → AreNe
 next_within code x p next closed at c = All-contains (λ (y : Label). y.0 < length code.places) (all_nexts code.places) next closed.within (nexts_contain code.places x.0 p next at c)
 
 -- ---- edges that are led
-
--- where no edge of an instruction changes, nor does it
-pub relabel_none : (r : Label → Label) (i : VInstr) → ((y : Label) → Contains (successors i) y → r y ≡ y) → relabel r i ≡ i
-unfolding successors relabel
-relabel_none r (Nop x) h = ap Nop (h x (head_in x []))
-relabel_none r (Op d e x) h = ap (Op d e) (h x (head_in x []))
-relabel_none r (Move ps x) h = ap (Move ps) (h x (head_in x []))
-relabel_none r (Cond t x y) h = ap (λ (z : Label). Cond t z (r y)) (h x (head_in x (y ∷ []))) ∙ ap (Cond t x) (h y (Contains-append_right (x ∷ []) (y ∷ []) y (head_in y [])))
-relabel_none r (Call d f args x) h = ap (Call d f args) (h x (head_in x []))
-relabel_none r (Return v) h = refl
-relabel_none r (Print v x) h = ap (Print v) (h x (head_in x []))
-relabel_none r (Load d a x) h = ap (Load d a) (h x (head_in x []))
-relabel_none r (Store a v x) h = ap (Store a v) (h x (head_in x []))
-relabel_none r (Fail f l) h = refl
-relabel_none r (Assume gs b t x) h = ap (Assume gs b t) (h x (head_in x []))
-relabel_none r (Anchor b t x) h = ap (Anchor b t) (h x (head_in x []))
-
-pub guard_successor : (i : VInstr) (next : Label) → guard_next i ≡ Some next → Contains (successors i) next
-unfolding guard_next successors
-guard_successor (Assume g b t x) y e = subst (Contains (x ∷ [])) (same_Some x y e) (head_in x [])
-guard_successor (Anchor b t x) y e = subst (Contains (x ∷ [])) (same_Some x y e) (head_in x [])
-guard_successor (Nop x) y e = absurd (none-some y e)
-guard_successor (Op d v x) y e = absurd (none-some y e)
-guard_successor (Move ps x) y e = absurd (none-some y e)
-guard_successor (Cond t x z) y e = absurd (none-some y e)
-guard_successor (Call d f args x) y e = absurd (none-some y e)
-guard_successor (Return v) y e = absurd (none-some y e)
-guard_successor (Print v x) y e = absurd (none-some y e)
-guard_successor (Load d a x) y e = absurd (none-some y e)
-guard_successor (Store a v x) y e = absurd (none-some y e)
-guard_successor (Fail f l) y e = absurd (none-some y e)

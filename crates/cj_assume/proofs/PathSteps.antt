@@ -8,20 +8,16 @@ use Rattle.std.proofs.lemmas.Option.{none-some}
 use Rattle.std.proofs.lemmas.Bool.{eqb-true}
 use Rattle.cj_ir.specs.declared.language.Label.{Label}
 use Rattle.cj_ir.specs.declared.language.Program.{Program}
+use Rattle.cj_ir.proofs.Labels.{same_label}
 use Rattle.cj_draft.specs.declared.code.Place.{Place}
 use Rattle.cj_draft.specs.declared.code.Code.{Code}
 use Rattle.cj_draft.specs.declared.passes.Skipped.{Skipped}
 use Rattle.cj_draft.specs.Arrives.{place_at}
+use Rattle.cj_draft.specs.Edges.{successors}
 use Rattle.cj_assume.specs.ImmediateAssume.{or_next}
-use Rattle.cj_assume.specs.DelayedAssume.{successors, is_label, all_nexts, nexts_in, on_path, turn_at, turns_before, is_edge, step_offence, steps_offence}
+use Rattle.cj_assume.specs.DelayedAssume.{is_label, all_nexts, nexts_in, on_path, turn_at, turns_before, is_edge, step_offence, steps_offence}
 use Rattle.cj_assume.specs.CountedEdges.{AreNextsWithin}
 use Rattle.cj_assume.proofs.Counted.{count-append, count-cons}
-
-pub same_label : (x y : Label) → x.0 ≡ y.0 → x ≡ y
-same_label x y e = ap label e
-  where
-    label : ℕ → Label
-    label n = record { 0 = n }
 
 -- ---- tests
 

@@ -4,8 +4,9 @@ use Rattle.cj_ir.specs.declared.language.Label.{Label}
 use Rattle.cj_draft.specs.declared.instructions.VInstr.{VInstr}
 use Rattle.cj_draft.specs.declared.code.Place.{Place}
 use Rattle.cj_draft.specs.declared.code.Code.{Code}
+use Rattle.cj_draft.specs.Edges.{successors}
 use Rattle.cj_links.specs.EdgeTable.{EdgeTable, label_of, list_of}
-use Rattle.cj_assume.specs.DelayedAssume.{successors, is_label, all_nexts}
+use Rattle.cj_assume.specs.DelayedAssume.{is_label, all_nexts}
 
 -- the edges from a label that holds this instruction
 unfoldable pub edges_from : Label → VInstr → List (Label × Label)

@@ -8,8 +8,9 @@ use Rattle.cj_draft.specs.declared.code.Back.{Back}
 use Rattle.cj_draft.specs.declared.code.Place.{Place}
 use Rattle.cj_draft.specs.declared.code.Code.{Code}
 use Rattle.cj_draft.specs.Arrives.{place_at}
+use Rattle.cj_draft.specs.Edges.{fresh_label}
 use Rattle.cj_rows.specs.Pairs.{AreWith}
-use Rattle.cj_assume.specs.ImmediateAssume.{with_instr, with_places, fresh_label}
+use Rattle.cj_assume.specs.ImmediateAssume.{with_instr, with_places}
 use Rattle.cj_assume.specs.DelayedAssume.{on_path, turns_back, with_backs, led_edge, fresh_place}
 
 -- a path of at least two labels of a code, of which none stands in it twice

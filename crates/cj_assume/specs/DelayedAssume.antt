@@ -10,7 +10,7 @@ use Rattle.cj_ir.specs.Program.{instr_at}
 use Rattle.cj_draft.specs.declared.points.PointFrame.{PointFrame}
 use Rattle.cj_draft.specs.declared.points.Point.{Point}
 use Rattle.cj_draft.specs.declared.instructions.VInstr.{VInstr}
-use Rattle.cj_draft.specs.declared.instructions.VInstr.TheVariants.{Nop, Op, Move, Cond, Call, Return, Print, Load, Store, Fail, Assume, Anchor}
+use Rattle.cj_draft.specs.declared.instructions.VInstr.TheVariants.{Nop, Cond, Assume, Anchor}
 use Rattle.cj_draft.specs.declared.code.Back.{Back}
 use Rattle.cj_draft.specs.declared.code.Place.{Place}
 use Rattle.cj_draft.specs.declared.code.Code.{Code}
@@ -18,27 +18,13 @@ use Rattle.cj_draft.specs.declared.passes.Skipped.{Skipped}
 use Rattle.cj_draft.specs.declared.passes.Skipped.TheVariants.{NoPlace, NotAnchor, NoEdge, NotSilent, Joined, TooLong}
 use Rattle.cj_draft.specs.Arrives.{place_at}
 use Rattle.cj_draft.specs.Sound.{pair_of}
+use Rattle.cj_draft.specs.Edges.{successors, led_to, fresh_label}
 use Rattle.cj_rows.specs.Rows.{fresh_row}
 use Rattle.cj_rows.specs.Rooms.{room_offence}
 use Rattle.cj_rows.specs.Pairs.{AreWith}
-use Rattle.cj_assume.specs.ImmediateAssume.{or_next, if_missing, register_offence, told, guards_offence, with_instr, fresh_label}
+use Rattle.cj_assume.specs.ImmediateAssume.{or_next, if_missing, register_offence, told, guards_offence, with_instr}
 
 -- ---- edges
-
--- the labels to which an instruction goes on
-unfoldable pub successors : VInstr → List Label
-successors (Nop next) = next ∷ []
-successors (Op dest expr next) = next ∷ []
-successors (Move pairs next) = next ∷ []
-successors (Cond test then_to else_to) = then_to ∷ else_to ∷ []
-successors (Call dest f args next) = next ∷ []
-successors (Return value) = []
-successors (Print value next) = next ∷ []
-successors (Load dest address next) = next ∷ []
-successors (Store address value next) = next ∷ []
-successors (Fail f label) = []
-successors (Assume guards back target next) = next ∷ []
-successors (Anchor back target next) = next ∷ []
 
 unfoldable pub is_label : Label → Label → Bool
 is_label label other = nat_eq other.0 label.0
@@ -190,14 +176,6 @@ pub record AreMarked (code : Code) (path : List Label) (target : Point) (number 
       (backs : List Back) × AreWith place.backs (path_pair code path target number at) backs × (slice_get places (on_path path at).0 ≡ Some (with_backs backs place))
   pub others : (label : Label) → ((at : ℕ) → 0 < at → at < upto → on_path path at ≢ label) →
       slice_get places label.0 ≡ place_at code label
-
-unfoldable pub if_label : Bool → Label → Label → Label
-if_label true fresh other = fresh
-if_label false fresh other = other
-
--- edges to the label go to the fresh one, and others stay
-unfoldable pub led_to : Label → Label → Label → Label
-led_to label fresh x = if_label (nat_eq x.0 label.0) fresh x
 
 -- a Nop, Cond, Assume or Anchor whose edges to the label go to the fresh one
 unfoldable pub led_edge : Label → Label → VInstr → VInstr

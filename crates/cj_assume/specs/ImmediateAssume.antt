@@ -12,22 +12,11 @@ use Rattle.cj_draft.specs.declared.passes.Room.TheVariants.{Guards}
 use Rattle.cj_draft.specs.declared.passes.Skipped.{Skipped}
 use Rattle.cj_draft.specs.declared.passes.Skipped.TheVariants.{NoPlace, NotAnchor, NoRegister}
 use Rattle.cj_draft.specs.Arrives.{place_at}
-use Rattle.cj_rows.specs.Rows.{fresh_row}
+use Rattle.cj_draft.specs.Edges.{fresh_label}
+use Rattle.cj_rows.specs.Rows.{fresh_row, anchor_next, anchor_at}
 use Rattle.cj_rows.specs.Rooms.{if_full, room_offence}
 
 -- ---- what stands at a label
-
-unfoldable pub anchor_next : VInstr → Option Label
-anchor_next (Anchor back target next) = Some next
-anchor_next instr = None
-
-unfoldable pub next_in : Option Place → Option Label
-next_in None = None
-next_in (Some place) = anchor_next place.instr
-
--- the next label of the Anchor at a label, where there is one
-unfoldable pub anchor_at : Code → Label → Option Label
-anchor_at code label = next_in (place_at code label)
 
 unfoldable pub guard_count : VInstr → Option ℕ
 guard_count (Assume guards back target next) = Some (length guards)
@@ -120,10 +109,6 @@ anchor_to next instr = instr
 unfoldable pub assume_of : List Guard → VInstr → VInstr
 assume_of guards (Anchor back target next) = Assume guards back target next
 assume_of guards instr = instr
-
--- the label that is appended
-unfoldable pub fresh_label : Code → Label
-fresh_label code = record { 0 = length code.places }
 
 unfoldable pub inserted_in : Code → Label → List Guard → Option Place → Code
 inserted_in code anchor guards None = code

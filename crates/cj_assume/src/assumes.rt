@@ -3,10 +3,11 @@
 ghost use Rattle.std.specs.Prelude.{◌≡◌, ◌<◌, ◌≤◌, None, IfOk, length};
 ghost use Rattle.cj_assume.specs.ImmediateAssume.{assume_offence, appended, inserted, assumed, assumed_or_left, IsAfter};
 
-use crate::offences::{anchor_at, assume_offence, guards_at};
+use crate::offences::{assume_offence, guards_at};
 use crate::places::{anchor_to, assume_of, with_instr, with_more};
 use cj_draft::{Code, Draft, Skipped};
 use cj_ir::{Guards, Label, NoMemory};
+use cj_rows::anchor_at;
 
 /// The draft with the guards assumed directly after the Anchor at a label. Where an Assume follows the Anchor, they are
 /// appended to its own guards, and its target stays. Else a fresh label, the last one, holds an Assume with the Anchor's
@@ -72,7 +73,7 @@ fn appended(code: Code, label: Label, guards: &Guards) -> Result<Code, NoMemory>
 }
 
 /// The code with a fresh Assume directly after the Anchor at a label.
-#[tactic(auto, unfolding(crate::specs::ImmediateAssume::inserted, crate::specs::ImmediateAssume::inserted_in, crate::specs::ImmediateAssume::fresh_label, crate::specs::ImmediateAssume::with_places))]
+#[tactic(auto, unfolding(crate::specs::ImmediateAssume::inserted, crate::specs::ImmediateAssume::inserted_in, cj_draft::specs::Edges::fresh_label, crate::specs::ImmediateAssume::with_places))]
 fn inserted(code: Code, anchor: Label, guards: &Guards) -> Result<Code, NoMemory>
     requires few { length code.places ≤ 512 }
     ensures { IfOk result (λ made. made ≡ inserted code anchor guards.now) }

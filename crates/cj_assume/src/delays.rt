@@ -6,13 +6,13 @@ ghost use Rattle.cj_draft.specs.declared.instructions.VInstr.TheVariants.{Assume
 ghost use Rattle.cj_draft.specs.Arrives.{place_at};
 ghost use Rattle.cj_draft.specs.Sound.{pair_of};
 ghost use Rattle.cj_assume.specs.ImmediateAssume.{with_places};
-ghost use Rattle.cj_assume.specs.DelayedAssume.{delay_offence, on_path, turn_at, turns_back, path_pair, AreMarked, led_to, led_edge, IsDelayed, IsAfterDelay};
+ghost use Rattle.cj_assume.specs.DelayedAssume.{delay_offence, on_path, turn_at, turns_back, path_pair, AreMarked, led_edge, IsDelayed, IsAfterDelay};
 ghost use Rattle.cj_assume.specs.DelaySteps.{IsPathIn, BeginsPath, IsMarkedPlace, IsMarkedAt, IsFreshPlace, IsLed};
 
 use crate::edges::edge_lists;
 use crate::paths::{delay_offence, is_turn_at, on_path, turns_before};
 use crate::places::with_instr;
-use cj_draft::{Code, Draft, Place, Point, Skipped, VInstr};
+use cj_draft::{Code, Draft, Place, Point, Skipped, VInstr, led_to};
 use cj_ir::{Duplicate, Guards, Label, Labels, NoMemory};
 use cj_rows::with_pair;
 
@@ -244,11 +244,4 @@ fn led_edge(instr: &VInstr, label: Label, fresh: Label) -> Result<VInstr, NoMemo
             Ok(same)
         }
     }
-}
-
-#[tactic(auto, unfolding(crate::specs::DelayedAssume::led_to, crate::specs::DelayedAssume::if_label))]
-fn led_to(label: Label, fresh: Label, to: Label) -> Label
-    ensures { result ≡ led_to label fresh to }
-{
-    if to.0 == label.0 { fresh } else { to }
 }

@@ -4,7 +4,7 @@ ghost use Rattle.std.specs.Prelude.{◌≡◌, ◌+◌, ◌*◌, ◌^◌, ◌<�
 ghost use Rattle.cj_assume.specs.DelayedAssume.{edges_into};
 ghost use Rattle.cj_assume.specs.CountedEdges.{edges_from, edges_of, AreNextsWithin, AreCounted};
 
-use cj_draft::{Code, Place, VInstr};
+use cj_draft::{Code, Place, Successors, VInstr};
 use cj_ir::{Label, NoMemory, Sequence};
 use cj_links::EdgeLists;
 use std::alloc::Global;
@@ -51,32 +51,20 @@ fn edges_of(alloc: Global, places: &[Place]) -> Result<Edges, NoMemory>
 }
 
 /// Appends the edges from a label that holds this instruction.
-#[tactic(auto, unfolding(crate::specs::CountedEdges::edges_from, crate::specs::DelayedAssume::successors))]
+#[tactic(auto, unfolding(crate::specs::CountedEdges::edges_from))]
 fn push_edges(edges: &mut Edges, from: Label, instr: &VInstr) -> Result<(), NoMemory>
     ensures { OnOk result (edges.new ≡ edges.old ++ edges_from from instr.now) }
 {
-    match *instr {
-        VInstr::Nop { next }
-        | VInstr::Op { next, .. }
-        | VInstr::Move { next, .. }
-        | VInstr::Call { next, .. }
-        | VInstr::Print { next, .. }
-        | VInstr::Load { next, .. }
-        | VInstr::Store { next, .. }
-        | VInstr::Assume { next, .. }
-        | VInstr::Anchor { next, .. } => {
+    match instr.successors() {
+        Successors::End => Ok(()),
+        Successors::One { next } => {
             edges.push((from, next))?;
             Ok(())
         }
-        VInstr::Cond {
-            then_to,
-            else_to,
-            ..
-        } => {
+        Successors::Two { then_to, else_to } => {
             edges.push((from, then_to))?;
             edges.push((from, else_to))?;
             Ok(())
         }
-        VInstr::Return { .. } | VInstr::Fail { .. } => Ok(()),
     }
 }

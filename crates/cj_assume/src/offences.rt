@@ -1,11 +1,11 @@
 //! Why an Assume can't stand directly after an Anchor.
 
 ghost use Rattle.std.specs.Prelude.{◌≡◌, ◌+◌, ◌≤◌, length};
-ghost use Rattle.cj_assume.specs.ImmediateAssume.{anchor_next, anchor_at, guards_at, guard_offence, register_offence, told, guards_offence, full_offence, assume_offence};
+ghost use Rattle.cj_assume.specs.ImmediateAssume.{guards_at, guard_offence, register_offence, told, guards_offence, full_offence, assume_offence};
 
 use cj_draft::{Code, Room, Skipped, VInstr};
 use cj_ir::{Guard, Label};
-use cj_rows::{fresh_row, room_offence};
+use cj_rows::{anchor_next, fresh_row, room_offence};
 
 /// Guards of an Assume, at most.
 const MAX_GUARDS: usize = 8;
@@ -26,28 +26,6 @@ pub(crate) fn assume_offence(code: &Code, anchor: Label, guards: &[Guard]) -> Op
         return Some(skipped);
     }
     full_offence(code, anchor, guards.len(), guards_at(code, next))
-}
-
-/// The next label of an Anchor.
-#[tactic(auto, unfolding(crate::specs::ImmediateAssume::anchor_next))]
-fn anchor_next(instr: &VInstr) -> Option<Label>
-    ensures { result ≡ anchor_next instr.now }
-{
-    match *instr {
-        VInstr::Anchor { next, .. } => Some(next),
-        _ => None,
-    }
-}
-
-/// The next label of the Anchor at a label, where there is one.
-#[tactic(auto, unfolding(crate::specs::ImmediateAssume::anchor_at, crate::specs::ImmediateAssume::next_in))]
-pub(crate) fn anchor_at(code: &Code, label: Label) -> Option<Label>
-    ensures { result ≡ anchor_at code.now label }
-{
-    match code.places.items().get(label.0 as usize) {
-        None => None,
-        Some(place) => anchor_next(&place.instr),
-    }
 }
 
 /// How many guards the Assume at a label has, where there is one.

@@ -1,7 +1,7 @@
 //! Paths from an Anchor before the entry, in two base bodies with a branch.
 
 ghost use Rattle.std.specs.Prelude.{◌≡◌, ◌<◌, ◌≤◌, [], ◌∷◌, IfOk, length};
-ghost use Rattle.cj_assume.specs.DelayedAssume.{successors};
+ghost use Rattle.cj_draft.specs.Edges.{successors};
 ghost use Rattle.cj_assume.specs.CountedEdges.{AreNextsWithin};
 
 use super::delays::delayed_code;
@@ -75,7 +75,7 @@ fn program(rt: &impl Abort, alloc: Global, code: Lines) -> Result<Checked, Fail>
 }
 
 // An Anchor to a label, with the point and the facts of that place.
-#[tactic(auto, unfolding(crate::specs::DelayedAssume::successors))]
+#[tactic(auto, unfolding(cj_draft::specs::Edges::successors))]
 fn anchor_to(place: &Place, next: Label) -> Result<Place, Fail>
     ensures { IfOk result (λ made. successors made.instr ≡ next ∷ []) }
 {

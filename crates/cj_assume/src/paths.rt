@@ -3,13 +3,14 @@
 ghost use Rattle.std.specs.Prelude.{◌≡◌, ◌+◌, ◌-◌, ◌<◌, ◌≤◌, length};
 ghost use Rattle.std.specs.List.{list_any};
 ghost use Rattle.cj_ir.specs.Program.{instr_at};
+ghost use Rattle.cj_draft.specs.Edges.{listed};
 ghost use Rattle.cj_draft.specs.Arrives.{place_at};
-ghost use Rattle.cj_assume.specs.DelayedAssume.{successors, nexts_in, is_label, is_silent, base_at, is_turn, is_passed, passed_in, on_path, turn_at, turns_before, is_edge, joined_offence, silent_offence, step_offence, steps_offence, long_offence, end_offence, anchor_number, offence_from, missing_offence, delay_offence};
+ghost use Rattle.cj_assume.specs.DelayedAssume.{nexts_in, is_label, is_silent, base_at, is_turn, is_passed, passed_in, on_path, turn_at, turns_before, is_edge, joined_offence, silent_offence, step_offence, steps_offence, long_offence, end_offence, anchor_number, offence_from, missing_offence, delay_offence};
 ghost use Rattle.cj_assume.specs.CountedEdges.{AreNextsWithin, AreCounted};
 
 use crate::edges::edges_into;
 use crate::offences::{guards_offence, register_offence, told};
-use cj_draft::{Code, Point, Skipped, VInstr};
+use cj_draft::{Code, Point, Skipped, Successors, VInstr};
 use cj_ir::{FunId, Guard, Instr, Label, Program};
 use cj_links::EdgeLists;
 use cj_rows::{fresh_row, room_offence};
@@ -171,29 +172,24 @@ fn is_edge(code: &Code, path: &[Label], at: usize) -> bool
 }
 
 /// Whether a label goes on to another.
-#[tactic(auto, unfolding(crate::specs::DelayedAssume::nexts_in, crate::specs::DelayedAssume::successors, crate::specs::DelayedAssume::is_label))]
+#[tactic(auto, unfolding(crate::specs::DelayedAssume::nexts_in))]
 fn goes_to(code: &Code, from: Label, label: Label) -> bool
     ensures { result ≡ list_any (is_label label) (nexts_in (place_at code.now from)) }
 {
-    let Some(place) = code.places.items().get(from.0 as usize) else {
-        return false;
-    };
-    match place.instr {
-        VInstr::Nop { next }
-        | VInstr::Op { next, .. }
-        | VInstr::Move { next, .. }
-        | VInstr::Call { next, .. }
-        | VInstr::Print { next, .. }
-        | VInstr::Load { next, .. }
-        | VInstr::Store { next, .. }
-        | VInstr::Assume { next, .. }
-        | VInstr::Anchor { next, .. } => next.0 == label.0,
-        VInstr::Cond {
-            then_to,
-            else_to,
-            ..
-        } => then_to.0 == label.0 || else_to.0 == label.0,
-        VInstr::Return { .. } | VInstr::Fail { .. } => false,
+    match code.places.items().get(from.0 as usize) {
+        None => false,
+        Some(place) => is_among(place.instr.successors(), label),
+    }
+}
+
+#[tactic(auto, unfolding(crate::specs::DelayedAssume::is_label))]
+fn is_among(labels: Successors, label: Label) -> bool
+    ensures { result ≡ list_any (is_label label) (listed labels) }
+{
+    match labels {
+        Successors::End => false,
+        Successors::One { next } => next.0 == label.0,
+        Successors::Two { then_to, else_to } => then_to.0 == label.0 || else_to.0 == label.0,
     }
 }
 

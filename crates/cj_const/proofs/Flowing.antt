@@ -13,6 +13,7 @@ use Rattle.cj_ir.specs.declared.language.Label.{Label}
 use Rattle.cj_ir.specs.declared.language.Reg.{Reg}
 use Rattle.cj_ir.specs.declared.language.Guard.{Guard}
 use Rattle.cj_ir.specs.declared.language.Guard.TheVariants.{Is, Never}
+use Rattle.cj_ir.proofs.Members.{contains-head, contains-tail}
 use Rattle.cj_base.specs.Machine.{Effect, On, Fault, branch, cell, with_cell, op_effect, load_effect, store_effect}
 use Rattle.cj_base.specs.Machine as machine
 use Rattle.cj_draft.specs.declared.facts.Fact.{Fact}
@@ -24,12 +25,12 @@ use Rattle.cj_draft.specs.declared.instructions.VInstr.TheVariants.{Nop, Op, Mov
 use Rattle.cj_draft.specs.Effects.{Plain, guard_holds, guards_hold, moved, version_effect}
 use Rattle.cj_draft.specs.Arrives.{Allows}
 use Rattle.cj_draft.proofs.Refine.{Flows}
+use Rattle.cj_draft.specs.Edges.{successors}
 use Rattle.cj_const.specs.declared.knowledge.Outcome.{Outcome}
 use Rattle.cj_const.specs.declared.knowledge.Outcome.TheVariants.{Unknown, Value, ZeroDivisor}
 use Rattle.cj_const.specs.Knowledge.{Knowledge, with_known, known_value, folded_operands, evaluated}
-use Rattle.cj_const.specs.Flow.{nexts, after_op, after_move, along, with_value, with_guard, with_guards, leaves, facts_at, IsWithin}
+use Rattle.cj_const.specs.Flow.{after_op, after_move, along, with_value, with_guard, with_guards, leaves, facts_at, IsWithin}
 use Rattle.cj_const.specs.Search.{WritesWithin}
-use Rattle.cj_const.proofs.Told.{head-in, tail-in}
 use Rattle.cj_const.proofs.Monotone.{at-written, at-other}
 use Rattle.cj_const.proofs.Effects.{Agrees, known-agrees, operands-effect, evaluated-is, IsOutcome}
 
@@ -85,8 +86,8 @@ cond-agrees k regs (Some w) v a b agrees at =
 branch-in : (v : ℤ) (a b : Label) → Contains (a ∷ b ∷ []) (branch v a b)
 unfolding branch
 branch-in v a b = ⊎_elim
-    (λ yes_. subst (Contains (a ∷ b ∷ [])) (sym (cond-true (int_eq v (pos 0)) b a yes_)) (tail-in a b (b ∷ []) (head-in b [])))
-    (λ no_. subst (Contains (a ∷ b ∷ [])) (sym (cond-false (int_eq v (pos 0)) b a no_)) (head-in a (b ∷ [])))
+    (λ yes_. subst (Contains (a ∷ b ∷ [])) (sym (cond-true (int_eq v (pos 0)) b a yes_)) (contains-tail a b (b ∷ []) (contains-head b [])))
+    (λ no_. subst (Contains (a ∷ b ∷ [])) (sym (cond-false (int_eq v (pos 0)) b a no_)) (contains-head a (b ∷ [])))
     (cases_Bool (int_eq v (pos 0)))
 
 agrees-more : (k : Knowledge) (regs : List ℤ) (r : ℕ) (v : ℤ) → Agrees k regs → register regs r ≡ v → Agrees (with_known k r (Some v)) regs
@@ -133,30 +134,30 @@ module _ (n : ℕ) (table : List Facts) (k : Knowledge) (regs : List ℤ) (count
   written : (d : ℕ) (v : ℤ) → length (slice_set regs d v) ≡ n
   written d v = length-set regs d v ∙ count
 
-  pub flows : (instr : VInstr) (m : List ℤ) → WritesWithin n instr → ((to : Label) → Contains (nexts instr) to → IsWithin (facts_at table to) (leaves k instr to)) → Flows (Tells n table) regs (version_effect instr regs m)
-  unfolding version_effect op_effect load_effect store_effect nexts leaves
-  flows (Nop next) m w edges = arrives next (Some k) regs (edges next (head-in next [])) count agrees
+  pub flows : (instr : VInstr) (m : List ℤ) → WritesWithin n instr → ((to : Label) → Contains (successors instr) to → IsWithin (facts_at table to) (leaves k instr to)) → Flows (Tells n table) regs (version_effect instr regs m)
+  unfolding version_effect op_effect load_effect store_effect successors leaves
+  flows (Nop next) m w edges = arrives next (Some k) regs (edges next (contains-head next [])) count agrees
   flows (Op dest e next) m w edges = value-flows (expr_value regs e) machine.ZeroDivisor (λ v. On next (slice_set regs dest.0 v) m []) (λ v is.
       let x : Outcome = evaluated (folded_operands k e) in
-      arrives next (after_op k dest x) (slice_set regs dest.0 v) (edges next (head-in next [])) (written dest.0 v)
+      arrives next (after_op k dest x) (slice_set regs dest.0 v) (edges next (contains-head next [])) (written dest.0 v)
       (op-agrees k regs dest x (expr_value regs (folded_operands k e)) v agrees (omega arith) (evaluated-is regs (folded_operands k e)) (operands-effect k regs agrees e ∙ is)))
   flows (Move pairs next) m w edges =
       let within : All (λ (p : Pair). p.dest.0 < length regs) pairs = subst (λ z. All (λ (p : Pair). p.dest.0 < z) pairs) (sym count) w in
       let h = move-agrees k regs pairs k regs agrees agrees within in
-      arrives next (Some (after_move k pairs k)) (moved regs pairs regs) (edges next (head-in next [])) (h.1 ∙ count) h.0
+      arrives next (Some (after_move k pairs k)) (moved regs pairs regs) (edges next (contains-head next [])) (h.1 ∙ count) h.0
   flows (Cond test a b) m w edges =
       let v : ℤ = operand_value regs test in
       arrives (branch v a b) (along k (known_value k test) a b (branch v a b)) regs (edges (branch v a b) (branch-in v a b)) count
       (cond-agrees k regs (known_value k test) v a b agrees (known-agrees k regs agrees test))
   flows (Call dest f args next) m w edges = λ v.
-      arrives next (Some (with_known k dest.0 None)) (slice_set regs dest.0 v) (edges next (head-in next [])) (written dest.0 v) (agrees-unknown k regs dest.0 v agrees (omega arith))
+      arrives next (Some (with_known k dest.0 None)) (slice_set regs dest.0 v) (edges next (contains-head next [])) (written dest.0 v) (agrees-unknown k regs dest.0 v agrees (omega arith))
   flows (Return v) m w edges = tt
-  flows (Print v next) m w edges = arrives next (Some k) regs (edges next (head-in next [])) count agrees
+  flows (Print v next) m w edges = arrives next (Some k) regs (edges next (contains-head next [])) count agrees
   flows (Load dest a next) m w edges = value-flows (cell m (operand_value regs a)) (machine.BadAddress (operand_value regs a)) (λ v. On next (slice_set regs dest.0 v) m []) (λ v is.
-      arrives next (Some (with_known k dest.0 None)) (slice_set regs dest.0 v) (edges next (head-in next [])) (written dest.0 v) (agrees-unknown k regs dest.0 v agrees (omega arith)))
+      arrives next (Some (with_known k dest.0 None)) (slice_set regs dest.0 v) (edges next (contains-head next [])) (written dest.0 v) (agrees-unknown k regs dest.0 v agrees (omega arith)))
   flows (Store a v next) m w edges = value-flows (cell m (operand_value regs a)) (machine.BadAddress (operand_value regs a)) (λ z. On next regs (with_cell m (operand_value regs a) (operand_value regs v)) []) (λ z is.
-      arrives next (Some k) regs (edges next (head-in next [])) count agrees)
+      arrives next (Some k) regs (edges next (contains-head next [])) count agrees)
   flows (Fail f l) m w edges = tt
   flows (Assume guards b t next) m w edges = λ holds.
-      arrives next (with_guards guards (Some k)) regs (edges next (head-in next [])) count (guards-agree guards (Some k) regs agrees holds)
-  flows (Anchor b t next) m w edges = λ holds. arrives next (Some k) regs (edges next (head-in next [])) count agrees
+      arrives next (with_guards guards (Some k)) regs (edges next (contains-head next [])) count (guards-agree guards (Some k) regs agrees holds)
+  flows (Anchor b t next) m w edges = λ holds. arrives next (Some k) regs (edges next (contains-head next [])) count agrees

@@ -35,7 +35,7 @@ use Rattle.cj_const.proofs.Flowing.{Tells, flows}
 use Rattle.cj_const.proofs.FoldedNames.{writes_within, by-fine, together-fine}
 use Rattle.cj_const.proofs.FoldedPlaces.{length-folded, get-folded, got-folded}
 use Rattle.cj_const.proofs.Rows.{get_or-past}
-use Rattle.cj_const.proofs.Refined.{IsRefined, refined_sound}
+use Rattle.cj_draft.proofs.Refine.{IsRefined, refined_sound}
 use Rattle.cj_const.proofs.Together.{satisfies-agrees, together-allows, together-old}
 
 -- ---- instructions

@@ -7,7 +7,6 @@ pub mod Monotone
 pub mod Effects
 pub mod Flowing
 pub mod FoldedNames
-pub mod Refined
 pub mod Together
 pub mod FoldSound
 pub mod Meeting

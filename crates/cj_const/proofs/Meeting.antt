@@ -5,6 +5,7 @@ use Rattle.std.proofs.lemmas.Option.{none-some, same_Some}
 use Rattle.std.proofs.lemmas.Bool.{cases_Bool, and_parts, and_cases, cond-true, cond-false}
 use Rattle.std.proofs.lemmas.Bool.Decides.{Decides-int_eq}
 use Rattle.std.proofs.lemmas.List.Sums.{sum_by-cons}
+use Rattle.std.proofs.lemmas.List.{append-nil}
 use Rattle.cj_const.specs.Knowledge.{known}
 use Rattle.cj_const.specs.Search.{TellsNoMore, agrees, is_within, kept_slot, met, is_known}
 use Rattle.cj_const.proofs.Rows.{drop-at, drop-end}
@@ -37,14 +38,10 @@ met-more row others i d e x made new all h count is pushed left =
     ∙ sym (ap₂ (λ (xs ys : List (Option ℤ)). made ++ met xs ys) (drop-at row i d h) (drop-at others i e (omega arith)))
     ∙ left
 
-append-none : {X : Type 0} (xs : List X) → xs ++ [] ≡ xs
-append-none [] = refl
-append-none (x ∷ xs) = ap (λ ys. x ∷ ys) (append-none xs)
-
 pub met-all : (row others : List (Option ℤ)) (i : ℕ) (made all : List (Option ℤ)) → length row ≤ i → made ++ met (drop i row) (drop i others) ≡ all → made ≡ all
 unfolding met
 met-all row others i made all h left =
-    sym (append-none made) ∙ sym (ap (λ (xs : List (Option ℤ)). made ++ met xs (drop i others)) (drop-end row i h)) ∙ left
+    sym (append-nil made) ∙ sym (ap (λ (xs : List (Option ℤ)). made ++ met xs (drop i others)) (drop-end row i h)) ∙ left
 
 -- ---- slots
 

@@ -4,21 +4,18 @@ use Rattle.std.specs.Prelude.{ℤ, All, Contains, IfSome, slice_get, slice_set, 
 use Rattle.std.specs.Option.{option_map}
 use Rattle.std.proofs.lemmas.Option.{none-some, same_Some, slice_get-get_or, get_or_from_slice_get}
 use Rattle.std.proofs.lemmas.Bool.{not_from_true, not_from_false}
-use Rattle.std.proofs.lemmas.List.Elements.{All-contains, All-cons, All-nil, All-get_or}
+use Rattle.std.proofs.lemmas.List.Elements.{All-cons, All-nil, All-get_or}
 use Rattle.cj_ir.specs.declared.language.Label.{Label}
-use Rattle.cj_ir.specs.declared.language.Program.{Program}
+use Rattle.cj_ir.proofs.Members.{contains-none, contains-cases, all-from_contains}
 use Rattle.cj_links.specs.Waiting.{Waiting, IsOrderly, without_first}
 use Rattle.cj_draft.specs.declared.facts.Fact.{Fact}
-use Rattle.cj_draft.specs.declared.instructions.VInstr.{VInstr}
-use Rattle.cj_draft.specs.declared.instructions.VInstr.TheVariants.{Nop, Op, Move, Cond, Call, Return, Print, Load, Store, Fail, Assume, Anchor}
 use Rattle.cj_draft.specs.declared.code.Place.{Place}
 use Rattle.cj_draft.specs.declared.code.Code.{Code}
-use Rattle.cj_draft.specs.WellNamed.{IsVInstrFine}
 use Rattle.cj_draft.specs.Arrives.{place_at}
+use Rattle.cj_draft.specs.Edges.{successors}
 use Rattle.cj_const.specs.Knowledge.{Knowledge, known}
-use Rattle.cj_const.specs.Flow.{nexts, leaves}
+use Rattle.cj_const.specs.Flow.{leaves}
 use Rattle.cj_const.specs.Search.{HasWidth, SaysLess, is_within, met, reached_at, IsBegun, IsFollowing, IsSearch, IsEdge, work_left, LetsWait, is_news, met_with, HasArrived}
-use Rattle.cj_const.proofs.Told.{all-in, none-in, cons-cases}
 use Rattle.cj_const.proofs.SearchSteps.{edge-holds}
 
 abbrev Row : Type 0
@@ -59,25 +56,7 @@ arrived-met rows rows' w w' to row arrival e within is lets =
 one : (labels : ℕ) (to : Label) → to.0 < labels → All (λ (x : Label). x.0 < labels) (to ∷ [])
 one labels to h = All-cons (λ (x : Label). x.0 < labels) to [] h (All-nil (λ (x : Label). x.0 < labels))
 
-nexts-within : (P : Program) (n labels : ℕ) (instr : VInstr) → IsVInstrFine P n labels instr → All (λ to. to.0 < labels) (nexts instr)
-unfolding nexts
-nexts-within P n labels (Nop next) fine = one labels next fine
-nexts-within P n labels (Op dest e next) fine = one labels next fine.2
-nexts-within P n labels (Move pairs next) fine = one labels next fine.1
-nexts-within P n labels (Cond test a b) fine = All-cons (λ (to : Label). to.0 < labels) a (b ∷ []) fine.1 (one labels b fine.2)
-nexts-within P n labels (Call dest f args next) fine = one labels next fine.3
-nexts-within P n labels (Return v) fine = All-nil (λ (to : Label). to.0 < labels)
-nexts-within P n labels (Print v next) fine = one labels next fine.1
-nexts-within P n labels (Load dest a next) fine = one labels next fine.2
-nexts-within P n labels (Store a v next) fine = one labels next fine.2
-nexts-within P n labels (Fail f l) fine = All-nil (λ (to : Label). to.0 < labels)
-nexts-within P n labels (Assume guards b t next) fine = one labels next fine.4
-nexts-within P n labels (Anchor b t next) fine = one labels next fine.2
-
-pub next-within : (P : Program) (n labels : ℕ) (instr : VInstr) (to : Label) → IsVInstrFine P n labels instr → Contains (nexts instr) to → to.0 < labels
-next-within P n labels instr to fine c = All-contains (λ (x : Label). x.0 < labels) (nexts instr) to (nexts-within P n labels instr fine) c
-
-module _ (context : List Fact) (code : Code) (rows : Rows) (w : Waiting) (label to : Label) (p : Place) (at : place_at code label ≡ Some p) (edge : Contains (nexts p.instr) to) where
+module _ (context : List Fact) (code : Code) (rows : Rows) (w : Waiting) (label to : Label) (p : Place) (at : place_at code label ≡ Some p) (edge : Contains (successors p.instr) to) where
   -- no run is known to come to the label
   pub passed-unreached : slice_index_or rows label.0 None ≡ None → (left : List Label) → IsFollowing context code rows w label (to ∷ left) → IsFollowing context code rows w label left
   passed-unreached e left s = edge-holds context code rows w label to left p at edge s (λ k is. absurd (none-some k (sym (ap (option_map known) e) ∙ is)))
@@ -111,7 +90,7 @@ search-of context code rows w label s = record {
     entry = s.found.entry;
     above = s.found.above;
     edges = λ from next q at c. ⊎_elim
-        (λ opened. ⊎_elim (λ waits. inl waits) (λ mine. absurd (none-in next mine.1)) opened)
+        (λ opened. ⊎_elim (λ waits. inl waits) (λ mine. absurd (contains-none next mine.1)) opened)
         (λ holds. inr holds)
         (s.found.edges from next q at c);
   };
@@ -119,10 +98,10 @@ search-of context code rows w label s = record {
 }
 
 first-or-rest : (list : List Label) (label x : Label) → slice_get list 0 ≡ Some label → Contains list x → (x ≡ label) ⊎ Contains (drop 1 list) x
-first-or-rest [] label x e c = absurd (none-in x c)
-first-or-rest (y ∷ list) label x e c = ⊎_elim (λ same. inl (sym same ∙ same_Some y label e)) (λ rest. inr rest) (cons-cases y x list c)
+first-or-rest [] label x e c = absurd (contains-none x c)
+first-or-rest (y ∷ list) label x e c = ⊎_elim (λ same. inl (sym same ∙ same_Some y label e)) (λ rest. inr rest) (contains-cases y x list c)
 
-pub following-of : (context : List Fact) (code : Code) (rows : Rows) (w w' : Waiting) (label : Label) (p : Place) (left : List Label) → place_at code label ≡ Some p → left ≡ nexts p.instr → slice_get w.list 0 ≡ Some label → w' ≡ without_first w → IsOrderly w' → IsSearch context code rows w → IsFollowing context code rows w' label left
+pub following-of : (context : List Fact) (code : Code) (rows : Rows) (w w' : Waiting) (label : Label) (p : Place) (left : List Label) → place_at code label ≡ Some p → left ≡ successors p.instr → slice_get w.list 0 ≡ Some label → w' ≡ without_first w → IsOrderly w' → IsSearch context code rows w → IsFollowing context code rows w' label left
 following-of context code rows w w' label p left at is first rest orderly s = record {
   found = record {
     count = s.found.count;
@@ -133,7 +112,7 @@ following-of context code rows w w' label p left at is first rest orderly s = re
         (λ waits. ⊎_elim
         (λ mine.
         let same : q ≡ p = same_Some q p (sym at' ∙ ap (place_at code) mine ∙ at) in
-        let there : Contains (nexts p.instr) next = subst (λ (z : Place). Contains (nexts z.instr) next) same c in
+        let there : Contains (successors p.instr) next = subst (λ (z : Place). Contains (successors z.instr) next) same c in
         inl (inr (mine, subst (λ (ls : List Label). Contains ls next) (sym is) there)))
         (λ later. inl (inl (subst (λ (v : Waiting). Contains v.list from) (sym rest) later)))
         (first-or-rest w.list label from first waits))
@@ -143,9 +122,9 @@ following-of context code rows w w' label p left at is first rest orderly s = re
   waiting = record { labels = ap (λ (v : Waiting). v.labels) rest ∙ s.waiting.labels; orderly = orderly };
 }
 
-pub edges-of : (code : Code) (label : Label) (p : Place) (left : List Label) → place_at code label ≡ Some p → left ≡ nexts p.instr → All (IsEdge code label) left
-edges-of code label p left at is = subst (All (IsEdge code label)) (sym is) (all-in (IsEdge code label) (nexts p.instr) (λ to c place at'.
-    subst (λ (z : Place). Contains (nexts z.instr) to) (same_Some p place (sym at ∙ at')) c))
+pub edges-of : (code : Code) (label : Label) (p : Place) (left : List Label) → place_at code label ≡ Some p → left ≡ successors p.instr → All (IsEdge code label) left
+edges-of code label p left at is = subst (All (IsEdge code label)) (sym is) (all-from_contains (IsEdge code label) (successors p.instr) (λ to c place at'.
+    subst (λ (z : Place). Contains (successors z.instr) to) (same_Some p place (sym at ∙ at')) c))
 
 shorter : (list : List Label) (label : Label) → slice_get list 0 ≡ Some label → length (drop 1 list) < length list
 shorter [] label e = absurd (none-some label e)

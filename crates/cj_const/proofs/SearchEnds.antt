@@ -8,6 +8,8 @@ use Rattle.std.proofs.lemmas.Bool.{cases_eq, cases_lt}
 use Rattle.std.proofs.lemmas.List.{length-map, length-replicate, get_or-replicate}
 use Rattle.std.proofs.lemmas.List.Elements.{All-weaker, All-set, All-map, All-replicate, All-get_or}
 use Rattle.cj_ir.specs.declared.language.Label.{Label}
+use Rattle.cj_ir.proofs.Members.{contains-none, all-from_contains}
+use Rattle.cj_ir.proofs.Labels.{same_label}
 use Rattle.cj_links.specs.Waiting.{Waiting, none_waits}
 use Rattle.cj_draft.specs.declared.facts.Fact.{Fact}
 use Rattle.cj_draft.specs.declared.facts.Facts.{Facts}
@@ -17,14 +19,15 @@ use Rattle.cj_draft.specs.declared.code.Code.{Code}
 use Rattle.cj_draft.specs.WellNamed.{AreFactsFine, HasFineFacts}
 use Rattle.cj_draft.specs.Arrives.{place_at}
 use Rattle.cj_draft.specs.Sound.{AreAmong}
+use Rattle.cj_draft.specs.Edges.{successors}
 use Rattle.cj_const.specs.Knowledge.{Knowledge, told_by, known}
-use Rattle.cj_const.specs.Flow.{nexts, leaves, facts_at, SaysNoMore, IsWithin, IsConsistent, IsStrongest}
+use Rattle.cj_const.specs.Flow.{leaves, facts_at, SaysNoMore, IsWithin, IsConsistent, IsStrongest}
 use Rattle.cj_const.specs.Folding.{facts_below}
 use Rattle.cj_const.specs.Search.{TellsNoMore, SaysLess, facts_in, reached_at, HasWidth, EdgeHolds, IsSearch, LetsWait}
 use Rattle.cj_const.proofs.Rows.{get_or-past}
-use Rattle.cj_const.proofs.Told.{fact, all-in, none-in, told-contains, fine-told, below-in, in-below, below-fine, fine-one}
+use Rattle.cj_const.proofs.Told.{fact, told-contains, fine-told, below-in, in-below, below-fine, fine-one}
 use Rattle.cj_const.proofs.Monotone.{leaves-less}
-use Rattle.cj_const.proofs.SearchSteps.{same-label, less-trans, reached-same, reached-other}
+use Rattle.cj_const.proofs.SearchSteps.{less-trans, reached-same, reached-other}
 
 abbrev Row : Type 0
 Row = List (Option ℤ)
@@ -67,14 +70,14 @@ module _ (context : List Fact) (code : Code) (rows : Rows) (w : Waiting) (row : 
 
   begun-above : (table : List Facts) → IsConsistent context code table → (x : Label) → IsWithin (facts_at table x) (reached_at rows x)
   begun-above table consistent x = ⊎_elim
-      (λ e. subst (λ (y : Label). IsWithin (facts_at table y) (reached_at rows y)) (sym (same-label x code.entry e))
+      (λ e. subst (λ (y : Label). IsWithin (facts_at table y) (reached_at rows y)) (sym (same_label x code.entry e))
       (subst (IsWithin (facts_at table code.entry)) (sym at-entry) (among-within params context (facts_at table code.entry) fine consistent.entry)))
       (λ other. subst (IsWithin (facts_at table x)) (sym (at-other x other)) tt)
       (cases_eq x.0 code.entry.0)
 
   begun-edges : (x to : Label) (place : Place) → Contains w.list x ⊎ EdgeHolds rows place.instr x to
   begun-edges x to place = ⊎_elim
-      (λ e. inl (subst (Contains w.list) (sym (same-label x code.entry e)) lets.waits))
+      (λ e. inl (subst (Contains w.list) (sym (same_label x code.entry e)) lets.waits))
       (λ other. inr (λ k here. absurd (none-some k (sym (at-other x other) ∙ here))))
       (cases_eq x.0 code.entry.0)
 
@@ -112,7 +115,7 @@ row-fine n (Some row) = below-fine (known row) n
 row-among : (n : ℕ) (context : List Fact) (o : Option Row) → SaysLess (option_map known o) (Some (told_by context)) → AreAmong context (facts_in n o)
 unfolding facts_in
 row-among n context None less = absurd less
-row-among n context (Some row) less = all-in (Contains context) (facts_below (known row) n) (λ x c.
+row-among n context (Some row) less = all-from_contains (Contains context) (facts_below (known row) n) (λ x c.
     told-contains context x.reg.0 x.value (less x.reg.0 x.value (below-in (known row) n x c).1))
 
 row-within : (n : ℕ) (o : Option Row) (leaving : Option Knowledge) → SaysLess (option_map known o) leaving → IsWithin (facts_in n o) leaving
@@ -120,7 +123,7 @@ unfolding facts_in
 row-within n o None less = tt
 row-within n None (Some k) less = absurd less
 row-within n (Some row) (Some k) less =
-    all-in (λ (x : Fact). k x.reg.0 ≡ Some x.value) (facts_below (known row) n) (λ x c. less x.reg.0 x.value (below-in (known row) n x c).1)
+    all-from_contains (λ (x : Fact). k x.reg.0 ≡ Some x.value) (facts_below (known row) n) (λ x c. less x.reg.0 x.value (below-in (known row) n x c).1)
 
 row-told : (n : ℕ) (row : Row) → length row ≡ n → TellsNoMore (known row) (told_by (facts_below (known row) n))
 row-told n row width r v e = fine-told n (facts_below (known row) n) (fact r v) (below-fine (known row) n) (in-row n row r v width e)
@@ -152,13 +155,13 @@ module _ (context : List Fact) (code : Code) (rows : Rows) (w : Waiting) (s : Is
       (λ past. subst (HasWidth n) (sym (get_or-past rows x.0 None past)) tt)
       (cases_lt x.0 (length rows))
 
-  holds : (x to : Label) (place : Place) → place_at code x ≡ Some place → Contains (nexts place.instr) to → EdgeHolds rows place.instr x to
+  holds : (x to : Label) (place : Place) → place_at code x ≡ Some place → Contains (successors place.instr) to → EdgeHolds rows place.instr x to
   holds x to place at' c = ⊎_elim
-      (λ waits. absurd (none-in x (subst (λ (ls : List Label). Contains ls x) none waits)))
+      (λ waits. absurd (contains-none x (subst (λ (ls : List Label). Contains ls x) none waits)))
       (λ holds. holds)
       (s.found.edges x to place at' c)
 
-  edges : (x to : Label) (place : Place) (facts : List Fact) → place_at code x ≡ Some place → facts_at table x ≡ Known facts → Contains (nexts place.instr) to → IsWithin (facts_at table to) (leaves (told_by facts) place.instr to)
+  edges : (x to : Label) (place : Place) (facts : List Fact) → place_at code x ≡ Some place → facts_at table x ≡ Known facts → Contains (successors place.instr) to → IsWithin (facts_at table to) (leaves (told_by facts) place.instr to)
   unfolding facts_in
   edges x to place facts at' e c = by_row (slice_index_or rows x.0 None) refl (sym (at x) ∙ e)
     where

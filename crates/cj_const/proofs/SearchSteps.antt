@@ -8,6 +8,8 @@ use Rattle.std.proofs.lemmas.List.{get_or-set_same, get_or-set_other}
 use Rattle.std.proofs.lemmas.List.Sums.{sum_by-set, count_by-le-length}
 use Rattle.std.proofs.lemmas.List.Elements.{All-contains, All-weaker, All-set, All-get_or}
 use Rattle.cj_ir.specs.declared.language.Label.{Label}
+use Rattle.cj_ir.proofs.Members.{contains-cases}
+use Rattle.cj_ir.proofs.Labels.{same_label}
 use Rattle.cj_links.specs.Waiting.{Waiting}
 use Rattle.cj_draft.specs.declared.facts.Fact.{Fact}
 use Rattle.cj_draft.specs.declared.facts.Facts.{Facts}
@@ -15,10 +17,11 @@ use Rattle.cj_draft.specs.declared.facts.Facts.TheVariants.{Unreached, Known}
 use Rattle.cj_draft.specs.declared.code.Place.{Place}
 use Rattle.cj_draft.specs.declared.code.Code.{Code}
 use Rattle.cj_draft.specs.Arrives.{place_at}
+use Rattle.cj_draft.specs.Edges.{successors}
 use Rattle.cj_const.specs.Knowledge.{Knowledge, told_by, known}
-use Rattle.cj_const.specs.Flow.{nexts, leaves, facts_at, IsWithin, IsConsistent}
+use Rattle.cj_const.specs.Flow.{leaves, facts_at, IsWithin, IsConsistent}
 use Rattle.cj_const.specs.Search.{TellsNoMore, SaysLess, is_within, met, reached_at, HasWidth, EdgeHolds, IsFollowing, is_known, rank, work_left, LetsWait, is_news, met_with, HasArrived}
-use Rattle.cj_const.proofs.Told.{fact, cons-cases, told-contains}
+use Rattle.cj_const.proofs.Told.{fact, told-contains}
 use Rattle.cj_const.proofs.Monotone.{leaves-less}
 use Rattle.cj_const.proofs.Meeting.{length-met, met-first, met-second, met-tells, within-tells, met-fewer}
 
@@ -29,12 +32,6 @@ abbrev Rows : Type 0
 Rows = List (Option Row)
 
 -- ---- more and less
-
-pub same-label : (x y : Label) → x.0 ≡ y.0 → x ≡ y
-same-label x y e = ap label e
-  where
-    label : ℕ → Label
-    label n = record { 0 = n }
 
 pub less-self : (o : Option Knowledge) → SaysLess o o
 less-self None = tt
@@ -67,7 +64,7 @@ reached-other rows to x row h = ap (option_map known) (get_or-set_other rows to.
 -- ---- an edge of the label that is followed
 
 -- what arrives along an edge from a label says no less than a consistent table does
-arrives-above : (context : List Fact) (code : Code) (table : List Facts) (label to : Label) (p : Place) (k : Knowledge) → IsConsistent context code table → place_at code label ≡ Some p → Contains (nexts p.instr) to → IsWithin (facts_at table label) (Some k) → IsWithin (facts_at table to) (leaves k p.instr to)
+arrives-above : (context : List Fact) (code : Code) (table : List Facts) (label to : Label) (p : Place) (k : Knowledge) → IsConsistent context code table → place_at code label ≡ Some p → Contains (successors p.instr) to → IsWithin (facts_at table label) (Some k) → IsWithin (facts_at table to) (leaves k p.instr to)
 arrives-above context code table label to p k consistent at edge within = by_facts (facts_at table label) refl within
   where
     by_facts : (facts : Facts) → facts_at table label ≡ facts → IsWithin facts (Some k) → IsWithin (facts_at table to) (leaves k p.instr to)
@@ -76,7 +73,7 @@ arrives-above context code table label to p k consistent at edge within = by_fac
         within-less (facts_at table to) (leaves (told_by facts) p.instr to) (leaves k p.instr to) (consistent.edges label to p facts at e edge)
         (leaves-less (told_by facts) k p.instr to (told-less facts k within))
 
-module _ (context : List Fact) (code : Code) (rows : Rows) (w : Waiting) (label to : Label) (left : List Label) (p : Place) (at : place_at code label ≡ Some p) (edge : Contains (nexts p.instr) to) (s : IsFollowing context code rows w label (to ∷ left)) where
+module _ (context : List Fact) (code : Code) (rows : Rows) (w : Waiting) (label to : Label) (left : List Label) (p : Place) (at : place_at code label ≡ Some p) (edge : Contains (successors p.instr) to) (s : IsFollowing context code rows w label (to ∷ left)) where
   -- the edge holds already
   pub edge-holds : EdgeHolds rows p.instr label to → IsFollowing context code rows w label left
   edge-holds holds = record {
@@ -91,7 +88,7 @@ module _ (context : List Fact) (code : Code) (rows : Rows) (w : Waiting) (label 
           (λ mine. ⊎_elim
           (λ this. inr (moved from next q at' mine.0 this))
           (λ later. inl (inr (mine.0, later)))
-          (cons-cases to next left mine.1))
+          (contains-cases to next left mine.1))
           opened)
           (λ old. inr old)
           (s.found.edges from next q at' c);
@@ -115,7 +112,7 @@ module _ (context : List Fact) (code : Code) (rows : Rows) (w : Waiting) (label 
 
     all-less : (x : Label) → SaysLess (reached_at rows' x) (reached_at rows x)
     all-less x = ⊎_elim
-        (λ e. subst (λ (y : Label). SaysLess (reached_at rows' y) (reached_at rows y)) (sym (same-label x to e)) (subst (λ o. SaysLess o (reached_at rows to)) (sym (reached-same rows to row within)) less))
+        (λ e. subst (λ (y : Label). SaysLess (reached_at rows' y) (reached_at rows y)) (sym (same_label x to e)) (subst (λ o. SaysLess o (reached_at rows to)) (sym (reached-same rows to row within)) less))
         (λ other. subst (λ o. SaysLess o (reached_at rows x)) (sym (reached-other rows to x row other)) (less-self (reached_at rows x)))
         (cases_eq x.0 to.0)
 
@@ -127,12 +124,12 @@ module _ (context : List Fact) (code : Code) (rows : Rows) (w : Waiting) (label 
 
     above' : (table : List Facts) → IsConsistent context code table → (x : Label) → IsWithin (facts_at table x) (reached_at rows' x)
     above' table consistent x = ⊎_elim
-        (λ e. subst (λ (y : Label). IsWithin (facts_at table y) (reached_at rows' y)) (sym (same-label x to e)) (above-to table consistent))
+        (λ e. subst (λ (y : Label). IsWithin (facts_at table y) (reached_at rows' y)) (sym (same_label x to e)) (above-to table consistent))
         (λ other. subst (IsWithin (facts_at table x)) (sym (reached-other rows to x row other)) (s.found.above table consistent x))
         (cases_eq x.0 to.0)
 
     waits-now : (x : Label) → x.0 ≡ to.0 → Contains w'.list x
-    waits-now x e = subst (Contains w'.list) (sym (same-label x to e)) lets.waits
+    waits-now x e = subst (Contains w'.list) (sym (same_label x to e)) lets.waits
 
     -- this edge holds now, or its label waits
     this-holds : Contains w'.list label ⊎ EdgeHolds rows' p.instr label to
@@ -153,7 +150,7 @@ module _ (context : List Fact) (code : Code) (rows : Rows) (w : Waiting) (label 
     abbrev Open : Label → Label → Type 0
     Open from next = Contains w'.list from ⊎ ((from ≡ label) × Contains left next)
 
-    edges' : (from next : Label) (q : Place) → place_at code from ≡ Some q → Contains (nexts q.instr) next → Open from next ⊎ EdgeHolds rows' q.instr from next
+    edges' : (from next : Label) (q : Place) → place_at code from ≡ Some q → Contains (successors q.instr) next → Open from next ⊎ EdgeHolds rows' q.instr from next
     edges' from next q at' c = ⊎_elim
         (λ opened. ⊎_elim
         (λ waits. inl (inl (lets.still from waits)))
@@ -163,7 +160,7 @@ module _ (context : List Fact) (code : Code) (rows : Rows) (w : Waiting) (label 
         (λ holds. inr (moved' from next q at' mine.0 this holds))
         this-holds)
         (λ later. inl (inr (mine.0, later)))
-        (cons-cases to next left mine.1))
+        (contains-cases to next left mine.1))
         opened)
         (λ old. ⊎_elim
         (λ e. inl (inl (waits-now from e)))
@@ -190,7 +187,7 @@ met-greatest : (row others : Row) → length others ≡ length row → (facts : 
 met-greatest row others count Unreached h h' = absurd h
 met-greatest row others count (Known facts) h h' = λ i d lt. met-tells row others _ _ count (h i d lt) (h' i d lt)
 
-module _ (context : List Fact) (code : Code) (rows rows' : Rows) (w w' : Waiting) (label to : Label) (left : List Label) (p : Place) (at : place_at code label ≡ Some p) (edge : Contains (nexts p.instr) to) (s : IsFollowing context code rows w label (to ∷ left))
+module _ (context : List Fact) (code : Code) (rows rows' : Rows) (w w' : Waiting) (label to : Label) (left : List Label) (p : Place) (at : place_at code label ≡ Some p) (edge : Contains (successors p.instr) to) (s : IsFollowing context code rows w label (to ∷ left))
     (k : Knowledge) (here : reached_at rows label ≡ Some k) (arrival : Row) (arrives : leaves k p.instr to ≡ Some (known arrival)) (within : to.0 < length rows) (width : length arrival ≡ code.regs) where
   arrived-news : (o : Option Row) → slice_index_or rows to.0 None ≡ o → is_news o arrival ≡ true → LetsWait w w' to → IsFollowing context code (slice_set rows to.0 (Some (met_with o arrival))) w' label left
   unfolding is_news met_with

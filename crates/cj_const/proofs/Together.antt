@@ -7,6 +7,7 @@ use Rattle.std.proofs.lemmas.Bool.{cases_eq, cases_Bool, or_from, or_parts, not-
 use Rattle.std.proofs.lemmas.Bool.Decides.{Decides-int_eq}
 use Rattle.std.proofs.lemmas.List.Elements.{All-contains}
 use Rattle.cj_ir.specs.Values.{register}
+use Rattle.cj_ir.proofs.Members.{all-from_contains}
 use Rattle.cj_draft.specs.declared.facts.Fact.{Fact}
 use Rattle.cj_draft.specs.declared.facts.Facts.{Facts}
 use Rattle.cj_draft.specs.declared.facts.Facts.TheVariants.{Unreached, Known}
@@ -14,7 +15,7 @@ use Rattle.cj_draft.specs.WellNamed.{AreFactsFine, HasFineFacts}
 use Rattle.cj_draft.specs.Arrives.{Satisfies, Allows}
 use Rattle.cj_const.specs.Knowledge.{Knowledge, told_by}
 use Rattle.cj_const.specs.Folding.{facts_below, differ, clash, or_else, both, together_of, together}
-use Rattle.cj_const.proofs.Told.{fact, all-in, told-contains, fine-told, below-in, in-below}
+use Rattle.cj_const.proofs.Told.{fact, told-contains, fine-told, below-in, in-below}
 use Rattle.cj_const.proofs.Effects.{Agrees}
 
 pub satisfies-agrees : (facts : List Fact) (regs : List ℤ) → Satisfies facts regs → Agrees (told_by facts) regs
@@ -45,7 +46,7 @@ agree-both k k' regs h h' r v e = either-value (k r) (k' r) (register regs r) v 
 
 below-satisfied : (k : Knowledge) (n : ℕ) (regs : List ℤ) → Agrees k regs → Satisfies (facts_below k n) regs
 below-satisfied k n regs h =
-    all-in (λ (x : Fact). register regs x.reg.0 ≡ x.value) (facts_below k n) (λ x c. h x.reg.0 x.value (below-in k n x c).1)
+    all-from_contains (λ (x : Fact). register regs x.reg.0 ≡ x.value) (facts_below k n) (λ x c. h x.reg.0 x.value (below-in k n x c).1)
 
 pub together-allows : (n : ℕ) (old facts : Facts) (regs : List ℤ) → Allows old regs → Allows facts regs → Allows (together n old facts) regs
 unfolding together together_of
@@ -83,7 +84,7 @@ first-known None o' v e = absurd (none-some v e)
 first-known (Some w) o' v e = e
 
 told-holds : (k : Knowledge) (n : ℕ) (facts : List Fact) (regs : List ℤ) → AreFactsFine n facts → ((x : Fact) → Contains facts x → k x.reg.0 ≡ Some x.value) → Satisfies (facts_below k n) regs → Satisfies facts regs
-told-holds k n facts regs fine h satisfied = all-in (λ (x : Fact). register regs x.reg.0 ≡ x.value) facts (λ x c.
+told-holds k n facts regs fine h satisfied = all-from_contains (λ (x : Fact). register regs x.reg.0 ≡ x.value) facts (λ x c.
     let low : x.reg.0 < n = All-contains (λ (y : Fact). y.reg.0 < n) facts x fine.registers c in
     All-contains (λ (y : Fact). register regs y.reg.0 ≡ y.value) (facts_below k n) (fact x.reg.0 x.value) satisfied (in-below k n x.reg.0 x.value low (h x c)))
 

@@ -1,15 +1,16 @@
 -- Facts and what they tell.
-use Rattle.std.proofs.Common.{◌≡◌, ◌≢◌, ℕ, zero, suc, ◌+◌, ◌<◌, ◌≤◌, ◌⊎◌, List, [], ◌∷◌, ◌++◌, length, map, get_or, Option, Some, None, refl, sym, ap, ap₂, ◌∙◌, subst, inl, inr, ⊎_elim, arith, length-append}
+use Rattle.std.proofs.Common.{◌≡◌, ◌≢◌, ℕ, zero, suc, ◌+◌, ◌<◌, ◌≤◌, List, [], ◌∷◌, ◌++◌, length, map, get_or, Option, Some, None, refl, sym, ap, ap₂, ◌∙◌, subst, ⊎_elim, arith, length-append}
 use Rattle.std.specs.Prelude.{ℤ, All, Contains, ⊤}
 use Rattle.std.specs.List.Sorted.{IsStrictlyIncreasing}
 use Rattle.std.proofs.Math.ListN.{get_or-append, get_or-map}
 use Rattle.std.proofs.Math.Seq.{get_or-append_seam}
 use Rattle.std.proofs.lemmas.Option.{none-some, same_Some}
-use Rattle.std.proofs.lemmas.List.{length-map, map-append}
+use Rattle.std.proofs.lemmas.List.{length-map, map-append, append-nil}
 use Rattle.std.proofs.lemmas.List.Kept.{AllPairs-from_increasing}
-use Rattle.std.proofs.lemmas.List.Elements.{All-contains, All-map, Contains-get_or, Contains-append_left, Contains-append_right, Contains-append_cases}
+use Rattle.std.proofs.lemmas.List.Elements.{All-contains, All-map, Contains-append_left, Contains-append_right, Contains-append_cases}
 use Rattle.std.specs.List.{AllPairs}
 use Rattle.std.proofs.lemmas.Bool.{cases_eq}
+use Rattle.cj_ir.proofs.Members.{contains-one, contains-none, contains-head, contains-tail, contains-cases, all-from_contains}
 use Rattle.cj_draft.specs.declared.facts.Fact.{Fact}
 use Rattle.cj_draft.specs.WellNamed.{AreFactsFine}
 use Rattle.cj_draft.proofs.FactLists.{AllDiffer, differ-from_increasing}
@@ -22,26 +23,6 @@ fact r v = record { reg = record { 0 = r }; value = v }
 
 -- ---- items
 
-pub only-one : {X : Type 0} (x y : X) → Contains (x ∷ []) y → x ≡ y
-only-one x y (zero, h, e) = e
-only-one x y (suc k, h, e) = absurd (omega arith)
-
-pub none-in : {X : Type 0} (x : X) → Contains [] x → ⊥
-none-in x c = let h : c.0 < 0 = c.1 in omega arith
-
-pub head-in : {X : Type 0} (x : X) (xs : List X) → Contains (x ∷ xs) x
-head-in x xs = (0, omega arith, refl)
-
-pub tail-in : {X : Type 0} (x y : X) (xs : List X) → Contains xs y → Contains (x ∷ xs) y
-tail-in x y xs c = Contains-append_right (x ∷ []) xs y c
-
--- an item of a list is its first, or one of the rest
-pub cons-cases : {X : Type 0} (x y : X) (xs : List X) → Contains (x ∷ xs) y → (x ≡ y) ⊎ Contains xs y
-cons-cases x y xs c = ⊎_elim (λ one. inl (only-one x y one)) (λ rest. inr rest) (Contains-append_cases (x ∷ []) xs y c)
-
-pub all-in : {X : Type 0} (P : X → Type 0) (xs : List X) → ((x : X) → Contains xs x → P x) → All P xs
-all-in P xs h = λ i d lt. h (get_or xs i d) (Contains-get_or xs i d lt)
-
 -- ---- what is told is a fact
 
 pub told-contains : (facts : List Fact) (r : ℕ) (v : ℤ) → told_by facts r ≡ Some v → Contains facts (fact r v)
@@ -51,19 +32,19 @@ told-contains (x ∷ facts) r v e = ⊎_elim
     (λ same.
     let value : x.value ≡ v = same_Some x.value v (sym (told-first x facts r same) ∙ e) in
     let is : x ≡ fact r v = ap₂ fact same value in
-    subst (Contains (x ∷ facts)) is (head-in x facts))
-    (λ other. tail-in x (fact r v) facts (told-contains facts r v (sym (told-rest x facts r other) ∙ e)))
+    subst (Contains (x ∷ facts)) is (contains-head x facts))
+    (λ other. contains-tail x (fact r v) facts (told-contains facts r v (sym (told-rest x facts r other) ∙ e)))
     (cases_eq x.reg.0 r)
 
 -- a fact is told, where no two facts are of one register
 pub contains-told : (facts : List Fact) (x : Fact) → AllDiffer facts → Contains facts x → told_by facts x.reg.0 ≡ Some x.value
-contains-told [] x differ c = absurd (none-in x c)
+contains-told [] x differ c = absurd (contains-none x c)
 contains-told (y ∷ facts) x differ c = ⊎_elim
     (λ same. told-first y facts x.reg.0 (ap (λ (z : Fact). z.reg.0) same) ∙ ap (λ (z : Fact). Some z.value) same)
     (λ rest.
     let other : x.reg.0 ≢ y.reg.0 = All-contains (λ (z : Fact). z.reg.0 ≢ y.reg.0) facts x differ.0 rest in
     told-rest y facts x.reg.0 (λ e. other (sym e)) ∙ contains-told facts x differ.1 rest)
-    (cons-cases y x facts c)
+    (contains-cases y x facts c)
 
 pub fine-told : (n : ℕ) (facts : List Fact) (x : Fact) → AreFactsFine n facts → Contains facts x → told_by facts x.reg.0 ≡ Some x.value
 fine-told n facts x fine c = contains-told facts x (differ-from_increasing facts fine.increasing) c
@@ -72,14 +53,14 @@ fine-told n facts x fine c = contains-told facts x (differ-from_increasing facts
 
 fact_if-in : (n : ℕ) (o : Option ℤ) (x : Fact) → Contains (fact_if n o) x → (x.reg.0 ≡ n) × (o ≡ Some x.value)
 unfolding fact_if
-fact_if-in n None x c = absurd (none-in x c)
+fact_if-in n None x c = absurd (contains-none x c)
 fact_if-in n (Some v) x c =
-    let e : fact n v ≡ x = only-one (fact n v) x c in
+    let e : fact n v ≡ x = contains-one (fact n v) x c in
     (sym (ap (λ (z : Fact). z.reg.0) e), ap (λ (z : Fact). Some z.value) e)
 
 pub below-in : (k : Knowledge) (n : ℕ) (x : Fact) → Contains (facts_below k n) x → (x.reg.0 < n) × (k x.reg.0 ≡ Some x.value)
 unfolding facts_below
-below-in k zero x c = absurd (none-in x c)
+below-in k zero x c = absurd (contains-none x c)
 below-in k (suc n) x c = ⊎_elim
     (λ old. let h = below-in k n x old in (omega (arith, h.0), h.1))
     (λ new. let h = fact_if-in n (k n) x new in (omega (arith, h.0), ap k h.0 ∙ h.1))
@@ -90,7 +71,7 @@ unfolding facts_below fact_if
 in-below k zero r v h e = absurd (omega arith)
 in-below k (suc n) r v h e = ⊎_elim
     (λ same.
-    let here : Contains (fact_if n (k n)) (fact r v) = subst (λ o. Contains (fact_if n o) (fact r v)) (sym e ∙ ap k same) (subst (λ m. Contains (fact m v ∷ []) (fact r v)) same (head-in (fact r v) [])) in
+    let here : Contains (fact_if n (k n)) (fact r v) = subst (λ o. Contains (fact_if n o) (fact r v)) (sym e ∙ ap k same) (subst (λ m. Contains (fact m v ∷ []) (fact r v)) same (contains-head (fact r v) [])) in
     Contains-append_right (facts_below k n) (fact_if n (k n)) (fact r v) here)
     (λ other. Contains-append_left (facts_below k n) (fact_if n (k n)) (fact r v) (in-below k n r v (omega arith) e))
     (cases_eq r n)
@@ -117,16 +98,12 @@ rising-push xs n up below = λ k h.
     omega arith)
     (cases_eq (k + 1) (length xs))
 
-append-none : {X : Type 0} (xs : List X) → xs ++ [] ≡ xs
-append-none [] = refl
-append-none (x ∷ xs) = ap (λ ys. x ∷ ys) (append-none xs)
-
 below-registers : (k : Knowledge) (n : ℕ) → All (λ x. x.reg.0 < n) (facts_below k n)
-below-registers k n = all-in (λ (x : Fact). x.reg.0 < n) (facts_below k n) (λ x c. (below-in k n x c).0)
+below-registers k n = all-from_contains (λ (x : Fact). x.reg.0 < n) (facts_below k n) (λ x c. (below-in k n x c).0)
 
 rising-slot : (xs : List Fact) (n : ℕ) (o : Option ℤ) → IsStrictlyIncreasing (registers_of xs) → All (λ x. x.reg.0 < n) xs → IsStrictlyIncreasing (registers_of xs ++ registers_of (fact_if n o))
 unfolding fact_if
-rising-slot xs n None up below = subst IsStrictlyIncreasing (sym (append-none (registers_of xs))) up
+rising-slot xs n None up below = subst IsStrictlyIncreasing (sym (append-nil (registers_of xs))) up
 rising-slot xs n (Some v) up below = rising-push (registers_of xs) n up (All-map (λ (r : ℕ). r < n) (λ (x : Fact). x.reg.0) xs below)
 
 below-rises : (k : Knowledge) (n : ℕ) → IsStrictlyIncreasing (registers_of (facts_below k n))
@@ -155,10 +132,10 @@ rises_from (x ∷ facts) rise = (
 
 one_list : (xs ys : List Fact) → Rises xs → Rises ys → ((z : Fact) → Contains xs z → Contains ys z) → ((z : Fact) → Contains ys z → Contains xs z) → xs ≡ ys
 one_list [] [] up up' to from = refl
-one_list [] (y ∷ ys) up up' to from = absurd (none-in y (from y (head-in y ys)))
-one_list (x ∷ xs) [] up up' to from = absurd (none-in x (to x (head-in x xs)))
+one_list [] (y ∷ ys) up up' to from = absurd (contains-none y (from y (contains-head y ys)))
+one_list (x ∷ xs) [] up up' to from = absurd (contains-none x (to x (contains-head x xs)))
 one_list (x ∷ xs) (y ∷ ys) up up' to from =
-    ap₂ (λ (z : Fact) (zs : List Fact). z ∷ zs) first (one_list xs ys up.1 up'.1 (λ z c. past z y ys first (after x xs up z c) (to z (tail-in x z xs c))) (λ z c. past' z c))
+    ap₂ (λ (z : Fact) (zs : List Fact). z ∷ zs) first (one_list xs ys up.1 up'.1 (λ z c. past z y ys first (after x xs up z c) (to z (contains-tail x z xs c))) (λ z c. past' z c))
   where
     after : (w : Fact) (ws : List Fact) → Rises (w ∷ ws) → (z : Fact) → Contains ws z → w.reg.0 < z.reg.0
     after w ws rise z c = All-contains (λ (v : Fact). w.reg.0 < v.reg.0) ws z rise.0 c
@@ -167,28 +144,28 @@ one_list (x ∷ xs) (y ∷ ys) up up' to from =
     low z w ws rise c = ⊎_elim
         (λ same. let e = ap (λ (v : Fact). v.reg.0) same in omega arith)
         (λ rest. let h = after w ws rise z rest in omega arith)
-        (cons-cases w z ws c)
+        (contains-cases w z ws c)
 
     first : x ≡ y
     first = ⊎_elim
         (λ same. sym same)
         (λ rest.
         let h = after y ys up' x rest in
-        let h' = low y x xs up (from y (head-in y ys)) in
+        let h' = low y x xs up (from y (contains-head y ys)) in
         absurd (omega arith))
-        (cons-cases y x ys (to x (head-in x xs)))
+        (contains-cases y x ys (to x (contains-head x xs)))
 
     past : (z w : Fact) (ws : List Fact) → x ≡ w → x.reg.0 < z.reg.0 → Contains (w ∷ ws) z → Contains ws z
     past z w ws e h c = ⊎_elim
         (λ same. let e' = ap (λ (v : Fact). v.reg.0) (e ∙ same) in absurd (omega arith))
         (λ rest. rest)
-        (cons-cases w z ws c)
+        (contains-cases w z ws c)
 
     past' : (z : Fact) → Contains ys z → Contains xs z
     past' z c =
         let h : y.reg.0 < z.reg.0 = after y ys up' z c in
         let e = ap (λ (v : Fact). v.reg.0) first in
-        past z x xs refl (omega arith) (from z (tail-in y z ys c))
+        past z x xs refl (omega arith) (from z (contains-tail y z ys c))
 
 -- lists of facts in order which have the same facts are the same
 pub fine-one : (n : ℕ) (xs ys : List Fact) → AreFactsFine n xs → AreFactsFine n ys → All (Contains ys) xs → All (Contains xs) ys → xs ≡ ys

@@ -18,26 +18,12 @@ use Rattle.cj_draft.specs.declared.code.Code.{Code}
 use Rattle.cj_draft.specs.WellNamed.{HasFineFacts}
 use Rattle.cj_draft.specs.Arrives.{place_at}
 use Rattle.cj_draft.specs.Sound.{AreAmong}
+use Rattle.cj_draft.specs.Edges.{successors}
 use Rattle.cj_const.specs.Knowledge.{Knowledge, told_by, with_known, known_value, folded_operands, evaluated}
 use Rattle.cj_const.specs.declared.knowledge.Outcome.{Outcome}
 use Rattle.cj_const.specs.declared.knowledge.Outcome.TheVariants.{Unknown, Value, ZeroDivisor}
 
 -- ---- what leaves a label along an edge; None where nothing arrives
-
--- the labels to which an instruction goes on
-unfoldable pub nexts : VInstr → List Label
-nexts (Nop next) = next ∷ []
-nexts (Op dest expr next) = next ∷ []
-nexts (Move pairs next) = next ∷ []
-nexts (Cond test then_to else_to) = then_to ∷ else_to ∷ []
-nexts (Call dest f args next) = next ∷ []
-nexts (Return value) = []
-nexts (Print value next) = next ∷ []
-nexts (Load dest address next) = next ∷ []
-nexts (Store address value next) = next ∷ []
-nexts (Fail f label) = []
-nexts (Assume guards back target next) = next ∷ []
-nexts (Anchor back target next) = next ∷ []
 
 -- after an op: its destination has the value, or nothing is known of it; nothing goes on past a zero divisor
 unfoldable pub after_op : Knowledge → Reg → Outcome → Option Knowledge
@@ -109,7 +95,7 @@ pub record IsConsistent (context : List Fact) (code : Code) (table : List Facts)
   pub fine : All (HasFineFacts code.regs) table
   pub entry : AreAmong context (facts_at table code.entry)
   pub edges : (label to : Label) (place : Place) (facts : List Fact) →
-      place_at code label ≡ Some place → facts_at table label ≡ Known facts → Contains (nexts place.instr) to →
+      place_at code label ≡ Some place → facts_at table label ≡ Known facts → Contains (successors place.instr) to →
       IsWithin (facts_at table to) (leaves (told_by facts) place.instr to)
 
 -- The table is consistent, and every consistent one says no more at any label. There is exactly one.

@@ -12,11 +12,10 @@ use Rattle.cj_draft.specs.declared.code.Place.{Place}
 use Rattle.cj_draft.specs.declared.code.Code.{Code}
 use Rattle.cj_draft.specs.WellNamed.{IsGuardWithin}
 use Rattle.cj_draft.specs.Arrives.{place_at}
+use Rattle.cj_draft.specs.Edges.{successors}
 use Rattle.cj_links.specs.Waiting.{Waiting, IsOrderly}
 use Rattle.cj_const.specs.Knowledge.{Knowledge, told_by, known}
-use Rattle.cj_const.specs.declared.flow.Nexts.{Nexts}
-use Rattle.cj_const.specs.declared.flow.Nexts.TheVariants.{End, One, Two}
-use Rattle.cj_const.specs.Flow.{nexts, leaves, facts_at, IsWithin, IsConsistent}
+use Rattle.cj_const.specs.Flow.{leaves, facts_at, IsWithin, IsConsistent}
 use Rattle.cj_const.specs.Folding.{facts_below}
 
 -- ---- rows
@@ -65,12 +64,6 @@ met [] others = []
 met (slot ∷ row) [] = []
 met (slot ∷ row) (other ∷ others) = kept_slot slot other ∷ met row others
 
--- the labels to which an instruction goes on, as a list
-abbrev pub listed : Nexts → List Label
-listed End = []
-listed (One next) = next ∷ []
-listed (Two then_to else_to) = then_to ∷ else_to ∷ []
-
 -- ---- tables of rows
 
 -- the facts of a label of which this is known
@@ -99,7 +92,7 @@ pub record AreRows (context : List Fact) (code : Code) (rows : List (Option (Lis
   pub entry : SaysLess (reached_at rows code.entry) (Some (told_by context))
   pub above : (table : List Facts) → IsConsistent context code table → (label : Label) →
       IsWithin (facts_at table label) (reached_at rows label)
-  pub edges : (label to : Label) (place : Place) → place_at code label ≡ Some place → Contains (nexts place.instr) to →
+  pub edges : (label to : Label) (place : Place) → place_at code label ≡ Some place → Contains (successors place.instr) to →
       Open label to ⊎ EdgeHolds rows place.instr label to
 
 -- the labels of a code may wait
@@ -166,4 +159,4 @@ HasArrived rows w to arrival rows' w' =
 
 -- the instruction at a label goes on to another
 abbrev pub IsEdge : Code → Label → Label → Type 0
-IsEdge code label to = (place : Place) → place_at code label ≡ Some place → Contains (nexts place.instr) to
+IsEdge code label to = (place : Place) → place_at code label ≡ Some place → Contains (successors place.instr) to

@@ -5,45 +5,14 @@ ghost use Rattle.std.specs.Option.{option_map};
 ghost use Rattle.cj_draft.specs.WellNamed.{IsGuardWithin};
 ghost use Rattle.cj_base.specs.Machine.{branch};
 ghost use Rattle.cj_const.specs.Knowledge.{known};
-ghost use Rattle.cj_const.specs.Flow.{after_op, after_move, along, with_guard, with_guards, leaves, nexts};
-ghost use Rattle.cj_const.specs.Search.{WritesWithin, arrived, listed};
+ghost use Rattle.cj_const.specs.Flow.{after_op, after_move, along, with_guard, with_guards, leaves};
+ghost use Rattle.cj_const.specs.Search.{WritesWithin, arrived};
 
 use crate::knowledge::{
     Outcome, Row, copied, evaluated, folded_operands, known, known_value, with_known,
 };
 use cj_draft::{Pair, VInstr};
 use cj_ir::{Guard, Label, NoMemory, Reg};
-
-/// The labels to which an instruction goes on.
-#[derive(Clone, Copy)]
-pub(crate) enum Nexts {
-    End,
-    One { next: Label },
-    Two { then_to: Label, else_to: Label },
-}
-
-#[tactic(auto, unfolding(crate::specs::Flow::nexts))]
-pub(crate) fn nexts_of(instr: &VInstr) -> Nexts
-    ensures { listed result ≡ nexts instr.now }
-{
-    match *instr {
-        VInstr::Nop { next }
-        | VInstr::Op { next, .. }
-        | VInstr::Move { next, .. }
-        | VInstr::Call { next, .. }
-        | VInstr::Print { next, .. }
-        | VInstr::Load { next, .. }
-        | VInstr::Store { next, .. }
-        | VInstr::Assume { next, .. }
-        | VInstr::Anchor { next, .. } => Nexts::One { next },
-        VInstr::Cond {
-            then_to,
-            else_to,
-            ..
-        } => Nexts::Two { then_to, else_to },
-        VInstr::Return { .. } | VInstr::Fail { .. } => Nexts::End,
-    }
-}
 
 /// After an op.
 #[tactic(auto, unfolding(crate::specs::Flow::after_op), using(crate::proofs::Rows::known_after))]

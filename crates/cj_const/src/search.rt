@@ -2,13 +2,14 @@
 
 ghost use Rattle.std.specs.Prelude.{◌≡◌, ◌<◌, ◌≤◌, List, [], ◌∷◌, All, None, Some, true, false, IfOk, OnOk, length, replicate, slice_set};
 ghost use Rattle.cj_ir.specs.declared.language.Label.{Label};
+ghost use Rattle.cj_draft.specs.Edges.{listed};
 ghost use Rattle.cj_const.specs.Flow.{IsStrongest};
-ghost use Rattle.cj_const.specs.Search.{agrees, is_within, kept_slot, met, HasWidth, LetsWait, HasArrived, IsEdge, IsBegun, IsFollowing, IsSearch, work_left, listed};
+ghost use Rattle.cj_const.specs.Search.{agrees, is_within, kept_slot, met, HasWidth, LetsWait, HasArrived, IsEdge, IsBegun, IsFollowing, IsSearch, work_left};
 
 use crate::facts::{Rows, table_of};
-use crate::flow::{Nexts, leaves, nexts_of};
+use crate::flow::leaves;
 use crate::knowledge::{Row, row_of};
-use cj_draft::{Draft, FactTable};
+use cj_draft::{Draft, FactTable, Successors};
 use cj_ir::{Label, NoMemory};
 use cj_links::Worklist;
 use std::alloc::Global;
@@ -132,7 +133,12 @@ impl Search {
     }
 
     /// Follows these edges of a label.
-    fn pass_all(&mut self, draft: &Draft<'_>, label: Label, nexts: Nexts) -> Result<(), NoMemory>
+    fn pass_all(
+        &mut self,
+        draft: &Draft<'_>,
+        label: Label,
+        nexts: Successors,
+    ) -> Result<(), NoMemory>
         requires following { IsFollowing draft.now.context draft.now.code self.old.rows self.old.waiting label (listed nexts) }
         requires within { label.0 < length draft.now.code.places }
         requires edges { All (IsEdge draft.now.code label) (listed nexts) }
@@ -140,12 +146,12 @@ impl Search {
         ensures passed { OnOk result (IsFollowing draft.now.context draft.now.code self.new.rows self.new.waiting label []) }
     {
         match nexts {
-            Nexts::End => Ok(()),
-            Nexts::One { next } => {
+            Successors::End => Ok(()),
+            Successors::One { next } => {
                 self.pass(draft, label, next)?;
                 Ok(())
             }
-            Nexts::Two { then_to, else_to } => {
+            Successors::Two { then_to, else_to } => {
                 self.pass(draft, label, then_to)?;
                 self.pass(draft, label, else_to)?;
                 Ok(())
@@ -164,7 +170,7 @@ impl Search {
             return Ok(false);
         };
         let place = &draft.code().places.items()[label.0 as usize];
-        self.pass_all(draft, label, nexts_of(&place.instr))?;
+        self.pass_all(draft, label, place.instr.successors())?;
         Ok(true)
     }
 }

@@ -7,6 +7,8 @@ pub mod SamePlaces
 pub mod Immediate
 pub mod MoreGuards
 pub mod Refine
+pub mod EdgeLemmas
+pub mod Wider
 pub mod Rows
 pub mod Lowering
 pub mod Adopted

@@ -1,5 +1,5 @@
 -- Stronger facts, and instructions with the same effect under them, keep that a code is sound. Constant propagation is such.
-use Rattle.std.proofs.Common.{◌≡◌, true, List, [], Some, sym, ap, ◌∙◌, subst, inl, length}
+use Rattle.std.proofs.Common.{◌≡◌, ℕ, true, List, [], Some, sym, ap, ◌∙◌, subst, inl, length}
 use Rattle.std.specs.Prelude.{ℤ, slice_set, ⊤}
 use Rattle.std.specs.List.{Contains}
 use Rattle.cj_ir.specs.WellFormed.{Takes}
@@ -27,25 +27,26 @@ Flows Told regs (Plain (Returns x)) = ⊤
 Flows Told regs (Plain (Faults e)) = ⊤
 Flows Told regs (Guarded holds back target next) = holds ≡ true → Told next regs
 
--- the place p' at label x is p under the table's facts
-pub record IsRefined (Told : Label → List ℤ → Type 0) (x : Label) (p p' : Place) : Type 0 where
+-- The place p' at label x is p under the facts of a table, over lists of n registers. Told x regs: at label x the table
+-- admits these registers.
+pub record IsRefined (n : ℕ) (Told : Label → List ℤ → Type 0) (x : Label) (p p' : Place) : Type 0 where
   pub point : p.point ≡ p'.point
   pub backs : p.backs ≡ p'.backs
   pub silent : IsSilentIn p.instr → IsSilentIn p'.instr
-  pub facts : (regs : List ℤ) → Allows p.facts regs → Told x regs → Allows p'.facts regs
-  pub old : (regs : List ℤ) → Allows p'.facts regs → Allows p.facts regs × Told x regs
+  pub facts : (regs : List ℤ) → length regs ≡ n → Allows p.facts regs → Told x regs → Allows p'.facts regs
+  pub old : (regs : List ℤ) → length regs ≡ n → Allows p'.facts regs → Allows p.facts regs × Told x regs
   pub effect : (regs m : List ℤ) → Told x regs → version_effect p'.instr regs m ≡ version_effect p.instr regs m
   pub flows : (regs m : List ℤ) → Told x regs → Flows Told regs (version_effect p.instr regs m)
 
 module _ (P : Program) (context : List Fact) (f : FunId) (code code' : Code) (Told : Label → List ℤ → Type 0) (same_regs : code.regs ≡ code'.regs)
-    (kept : (x : Label) (p : Place) → place_at code x ≡ Some p → (p' : Place) × (place_at code' x ≡ Some p') × IsRefined Told x p p')
-    (back : (x : Label) (p' : Place) → place_at code' x ≡ Some p' → (p : Place) × (place_at code x ≡ Some p) × IsRefined Told x p p') where
+    (kept : (x : Label) (p : Place) → place_at code x ≡ Some p → (p' : Place) × (place_at code' x ≡ Some p') × IsRefined code.regs Told x p p')
+    (back : (x : Label) (p' : Place) → place_at code' x ≡ Some p' → (p : Place) × (place_at code x ≡ Some p) × IsRefined code.regs Told x p p') where
   way : (Extra : Back → Type 0) (regs : List ℤ) (st : Stack) (x : Label) (a : Arrives P code x regs st) → Told x regs → Way P code code' Extra regs st a.place x
   way Extra regs st x a told =
       let k = kept x a.place a.at in
       let e = ap (λ z. frames_of P z regs) k.2.point in
       record {
-        arrives = record { place = k.0; at = k.1; admits = record { count = a.admits.count ∙ same_regs; facts = k.2.facts regs a.admits.facts told }; same = subst (Same P st) e a.same };
+        arrives = record { place = k.0; at = k.1; admits = record { count = a.admits.count ∙ same_regs; facts = k.2.facts regs a.admits.count a.admits.facts told }; same = subst (Same P st) e a.same };
         point = e;
         backs = λ q c. inl (subst (λ bs. Contains bs q) (sym k.2.backs) c);
       }
@@ -55,7 +56,7 @@ module _ (P : Program) (context : List Fact) (f : FunId) (code code' : Code) (To
   ways p' regs (Plain (Calls dest g args next)) told = λ v st a. way (λ q. ⊥) (slice_set regs dest.0 v) st next a (told v)
   ways p' regs (Plain (Returns x)) told = tt
   ways p' regs (Plain (Faults e)) told = tt
-  ways p' regs (Guarded holds back target next) told = λ h st a. way (λ q. Contains p'.backs q) regs st next a (told h)
+  ways p' regs (Guarded holds b target next) told = λ h st a. way (λ q. Contains p'.backs q) regs st next a (told h)
 
   pub refined_sound : Sound P context f code → WellNamed P code' → code'.function ≡ code.function → code'.entry ≡ code.entry
       → ((p' : Place) → place_at code' code'.entry ≡ Some p' → AreAmong context p'.facts)
@@ -72,10 +73,11 @@ module _ (P : Program) (context : List Fact) (f : FunId) (code code' : Code) (To
         subst (λ e. Resumes P code' e (entry_regs code'.regs args) st) (sym en) (subst (λ n. Resumes P code' code.entry (entry_regs n args) st) same_regs w);
     places = λ x p' at regs m fit.
         let k = back x p' at in
-        let o = k.2.old regs fit.facts in
+        let count : length regs ≡ code.regs = fit.count ∙ sym same_regs in
+        let o = k.2.old regs count fit.facts in
         let g : Grown k.0 p' = record { point = k.2.point; backs = λ q c. subst (λ bs. Contains bs q) k.2.backs c; silent = k.2.silent } in
         let e = version_effect k.0.instr regs m in
-        let old = s.places x k.0 k.1 regs m (record { count = fit.count ∙ sym same_regs; facts = o.0 }) in
+        let old = s.places x k.0 k.1 regs m (record { count = count; facts = o.0 }) in
         subst (SoundEffect P code' p' regs m) (relabel-same e ∙ sym (k.2.effect regs m o.1))
         (effect_way P code code' (λ z. z) k.0 p' regs m e g (ways p' regs e (k.2.flows regs m o.1)) old);
     rows = rows;

@@ -4,6 +4,7 @@
 pub mod base_body;
 pub mod code;
 pub mod drafts;
+pub mod edges;
 pub mod facts;
 pub mod frames;
 pub mod instructions;
@@ -14,6 +15,7 @@ pub mod versions;
 
 pub use code::{Back, Backs, Code, Place, Places};
 pub use drafts::Draft;
+pub use edges::{Successors, led_to};
 pub use facts::{Fact, FactList, FactTable, Facts};
 pub use instructions::{Pair, Pairs, VInstr};
 pub use passes::{Pass, Passes, Room, Skipped, Skips};

@@ -3,7 +3,7 @@ use Rattle.std.proofs.Common.{◌≡◌, ◌≢◌, ℕ, ◌+◌, ◌-◌, ◌<�
 use Rattle.std.specs.Prelude.{slice_get, slice_set, All, Contains}
 use Rattle.std.specs.Option.{option_map}
 use Rattle.std.proofs.lemmas.Bool.{cases_lt}
-use Rattle.std.proofs.lemmas.Option.{same_Some, none-some, slice_get_within, slice_get-map}
+use Rattle.std.proofs.lemmas.Option.{same_Some, slice_get_within, slice_get-map}
 use Rattle.std.proofs.lemmas.List.{length-set, length-map}
 use Rattle.std.proofs.lemmas.List.Elements.{All-contains}
 use Rattle.std.specs.Prelude.{IsSomeAnd}
@@ -14,6 +14,7 @@ use Rattle.cj_ir.specs.declared.language.Label.{Label}
 use Rattle.cj_ir.specs.declared.language.Reg.{Reg}
 use Rattle.cj_ir.specs.declared.language.Operand.{Operand}
 use Rattle.cj_ir.specs.declared.language.Program.{Program}
+use Rattle.cj_ir.proofs.Labels.{same_label, label_cases}
 use Rattle.cj_draft.specs.declared.facts.Fact.{Fact}
 use Rattle.cj_draft.specs.declared.points.PointFrame.{PointFrame}
 use Rattle.cj_draft.specs.declared.instructions.VInstr.{VInstr}
@@ -26,39 +27,21 @@ use Rattle.cj_draft.specs.WellNamed.{IsVInstrFine, IsBackFine, IsPlaceFine, Well
 use Rattle.cj_draft.specs.Arrives.{place_at}
 use Rattle.cj_draft.specs.Sound.{Sound, guard_next}
 use Rattle.cj_draft.specs.Inlining.{shift_label, joined_facts, appended_frames, call_place}
-use Rattle.cj_draft.proofs.Lists.{at_index, all_at, all_from}
+use Rattle.cj_draft.proofs.Lists.{at_index, all_at, all_from, fine_of}
 use Rattle.cj_draft.proofs.InlinedPlaces.{IsInlined, HasFirst, first_of_some}
 use Rattle.cj_draft.proofs.Inline.{IsInlining, inlining_sound}
 use Rattle.cj_rows.specs.Rows.{guard_in, guard_at}
 use Rattle.cj_rows.proofs.ListReads.{get-set_same, get-set_other, get-append_left}
-use Rattle.cj_rows.proofs.RowLemmas.{guard_place, has_guard, label_cases, same_label}
+use Rattle.cj_rows.proofs.RowLemmas.{guard_place, has_guard}
 use Rattle.cj_inline.specs.declared.seams.Seam.{Seam}
 use Rattle.cj_inline.specs.Inlining.{most_frames, place_frames, inline_offence, inlined_back, inlined_place, seam_at, inlined_by, inlined_at, inlined, unless, inlined_or_left}
 use Rattle.cj_inline.proofs.MapReads.{get-append_after, get-map_some, get-map_from, contains-map, contains-map_from}
 use Rattle.cj_inline.proofs.Greatest.{greatest_bounds}
-use Rattle.cj_inline.proofs.Wider.{place_wider}
+use Rattle.cj_draft.proofs.Wider.{place_wider}
+use Rattle.cj_draft.proofs.EdgeLemmas.{guard_next_within}
 use Rattle.cj_inline.proofs.Seaming.{HasSeam, appended_below, place_inlined, call_fine}
 use Rattle.cj_inline.proofs.Conditions.{CanInline}
 use Rattle.cj_inline.proofs.InlineRows.{guard_next-inlined, HasGuardsOfBoth, rows_inlined}
-
--- an instruction's next guard is a label of the code
-guard_next_within : (P : Program) (regs n : ℕ) (i : VInstr) (y : Label) → IsVInstrFine P regs n i → guard_next i ≡ Some y → y.0 < n
-unfolding guard_next
-guard_next_within P regs n (Assume g b t x) y h is = subst (λ (z : Label). z.0 < n) (same_Some x y is) h.4
-guard_next_within P regs n (Anchor b t x) y h is = subst (λ (z : Label). z.0 < n) (same_Some x y is) h.2
-guard_next_within P regs n (Nop x) y h is = absurd (none-some y is)
-guard_next_within P regs n (Op d e x) y h is = absurd (none-some y is)
-guard_next_within P regs n (Move ps x) y h is = absurd (none-some y is)
-guard_next_within P regs n (Cond t x z) y h is = absurd (none-some y is)
-guard_next_within P regs n (Call d g args x) y h is = absurd (none-some y is)
-guard_next_within P regs n (Return v) y h is = absurd (none-some y is)
-guard_next_within P regs n (Print v x) y h is = absurd (none-some y is)
-guard_next_within P regs n (Load d a x) y h is = absurd (none-some y is)
-guard_next_within P regs n (Store a v x) y h is = absurd (none-some y is)
-guard_next_within P regs n (Fail g l) y h is = absurd (none-some y is)
-
-fine_of : (P : Program) (code : Code) → WellNamed P code → (x : Label) (p : Place) → place_at code x ≡ Some p → IsPlaceFine P code.regs (length code.places) p
-fine_of P code named x p at = all_at (IsPlaceFine P code.regs (length code.places)) code.places x.0 p named.places at
 
 numbered : ℕ → Label
 numbered n = record { 0 = n }

@@ -1,6 +1,5 @@
 pub mod Greatest
 pub mod EntryPairs
-pub mod Wider
 pub mod Shifted
 pub mod MapReads
 pub mod Seaming

@@ -26,7 +26,7 @@ use Rattle.cj_draft.specs.Inlining.{shift_label, shift_reg, shift_operand, shift
 use Rattle.cj_inline.specs.declared.seams.Seam.{Seam}
 use Rattle.cj_inline.specs.Inlining.{greatest_of, target_frames, back_frames, place_frames, inlined_back, inlined_place}
 use Rattle.cj_inline.proofs.Greatest.{greatest_bounds}
-use Rattle.cj_inline.proofs.Wider.{frames_wider, operands_wider, place_wider}
+use Rattle.cj_draft.proofs.Wider.{frames_wider, operands_wider, place_wider}
 use Rattle.cj_inline.proofs.Shifted.{operand_shifted, expr_shifted, operands_shifted, guards_shifted, pairs_shifted, frames_shifted, facts_joined}
 
 -- ---- the caller's frames

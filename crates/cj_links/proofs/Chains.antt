@@ -5,8 +5,8 @@ use Rattle.std.proofs.lemmas.Bool.{cases_eq, eq-eqb, ne_eqb}
 use Rattle.cj_links.specs.declared.edges.Node.{Node}
 use Rattle.cj_links.specs.Threads.{node, after_of, before_of, with_after, lead, Chain}
 use Rattle.std.proofs.lemmas.List.Elements.{Contains-append_cases}
-use Rattle.cj_links.proofs.ListReads.{contains-none, contains-one}
-use Rattle.cj_links.proofs.Members.{Apart, contains-head, contains-tail, contains-cases}
+use Rattle.cj_ir.proofs.Members.{contains-none, contains-one, contains-head, contains-tail, contains-cases}
+use Rattle.cj_links.proofs.Members.{Apart}
 
 -- ---- one node led to another
 

@@ -7,11 +7,11 @@ use Rattle.std.proofs.lemmas.List.{same_lists, length-replicate, append-nil, get
 use Rattle.std.proofs.lemmas.List.FromFn.{length-map-range_with_len, get_or-map-range_with_len}
 use Rattle.std.proofs.lemmas.List.Elements.{All-nil, All-cons, All-contains}
 use Rattle.cj_ir.specs.declared.language.Label.{Label}
+use Rattle.cj_ir.proofs.Members.{contains-none}
 use Rattle.cj_links.specs.declared.edges.EdgeId.{EdgeId}
 use Rattle.cj_links.specs.declared.edges.Node.{Node}
 use Rattle.cj_links.specs.EdgeTable.{edge_table, label_of, end_of, edges_into, lists_into, IsBetween, IsWoven}
 use Rattle.cj_links.specs.Threads.{node, Chain, nodes_of, IsThreaded}
-use Rattle.cj_links.proofs.ListReads.{contains-none}
 use Rattle.cj_links.proofs.Members.{once-nil}
 
 pub length_into : (labels : ℕ) (edges : List (Label × Label)) → length (lists_into labels edges) ≡ labels

@@ -1,5 +1,3 @@
-pub mod ListReads
-pub mod Marks
 pub mod Windows
 pub mod Rings
 pub mod Members

@@ -1,32 +1,20 @@
 -- What is in a list that is made from another.
-use Rattle.std.proofs.Common.{◌≡◌, ◌≢◌, ℕ, zero, suc, ◌+◌, ◌<◌, ◌≤◌, ◌⊎◌, inl, inr, Bool, not, cond, List, [], ◌∷◌, ◌++◌, length, get_or, refl, sym, ap, ◌∙◌, subst, ⊎_elim, arith}
+use Rattle.std.proofs.Common.{◌≡◌, ◌≢◌, ℕ, zero, suc, ◌+◌, ◌<◌, ◌≤◌, Bool, not, cond, List, [], ◌∷◌, ◌++◌, length, refl, sym, ap, ◌∙◌, subst, ⊎_elim, arith}
 use Rattle.std.specs.Prelude.{filter, Contains, All, AllPairs, nat_eq}
-use Rattle.std.proofs.lemmas.List.Elements.{All-head, All-contains, Contains-get_or, Contains-append_cases, Contains-append_right}
+use Rattle.std.proofs.lemmas.List.Elements.{All-head, All-contains, Contains-get_or}
 use Rattle.std.proofs.lemmas.List.Kept.{AllPairs-cons, AllPairs-filter}
 use Rattle.std.proofs.lemmas.Bool.{cases_eq, eq-eqb, ne_eqb}
 use Rattle.std.proofs.lemmas.List.Quantifiers.{all_pairs_push}
+use Rattle.cj_ir.proofs.Members.{contains-none, contains-head, contains-tail, contains-cases, all-from_contains}
 use Rattle.cj_links.specs.declared.edges.EdgeId.{EdgeId}
 use Rattle.cj_links.specs.EdgeTable.{without}
 use Rattle.cj_links.specs.Threads.{nodes_of}
-use Rattle.cj_links.proofs.ListReads.{contains-none, contains-one}
 
 pub same_edge : (x y : EdgeId) → x.0 ≡ y.0 → x ≡ y
 same_edge x y e = ap edge e
   where
     edge : ℕ → EdgeId
     edge n = record { 0 = n }
-
-pub contains-head : {X : Type 0} (x : X) (xs : List X) → Contains (x ∷ xs) x
-contains-head x xs = (0, omega arith, refl)
-
-pub contains-tail : {X : Type 0} (x y : X) (xs : List X) → Contains xs y → Contains (x ∷ xs) y
-contains-tail x y xs c = Contains-append_right (x ∷ []) xs y c
-
-pub contains-cases : {X : Type 0} (x y : X) (xs : List X) → Contains (x ∷ xs) y → (x ≡ y) ⊎ Contains xs y
-contains-cases x y xs c = ⊎_elim (λ one. inl (contains-one x y one)) (λ more. inr more) (Contains-append_cases (x ∷ []) xs y c)
-
-pub all-from_contains : {X : Type 0} (P : X → Type 0) (xs : List X) → ((x : X) → Contains xs x → P x) → All P xs
-all-from_contains P xs f = λ k d lt. f (get_or xs k d) (Contains-get_or xs k d lt)
 
 -- ---- numbers of which none comes twice
 

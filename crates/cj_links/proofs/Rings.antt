@@ -9,21 +9,13 @@ use Rattle.std.proofs.lemmas.Bool.{cases_eq}
 use Rattle.cj_ir.specs.declared.language.Label.{Label}
 use Rattle.cj_links.specs.Waiting.{waiting, IsOrderly}
 use Rattle.cj_links.specs.Slots.{window, AreMarked, IsRing}
-use Rattle.cj_ir.proofs.ListReads.{get-set_same, get-set_other, get-replicate, contains-at}
-use Rattle.cj_links.proofs.ListReads.{contains-none, contains-one}
-use Rattle.cj_links.proofs.Marks.{count-none, count-set, count-unset, count-below}
+use Rattle.cj_ir.proofs.ListReads.{get-set_same, get-set_other, contains-at}
+use Rattle.cj_ir.proofs.Marks.{count-none, count-set, count-unset, count-below, no_mark}
+use Rattle.cj_ir.proofs.Members.{contains-none, contains-one}
+use Rattle.cj_ir.proofs.Labels.{same_label}
 use Rattle.cj_links.proofs.Windows.{length-window, window_after_put, window_before_take, mod_within}
 
-pub same_label : (x y : Label) → x.0 ≡ y.0 → x ≡ y
-same_label x y e = ap label e
-  where
-    label : ℕ → Label
-    label n = record { 0 = n }
-
 -- ---- none waits
-
-no_mark : (n k : ℕ) → slice_get (replicate n false) k ≡ Some true → ⊥
-no_mark n k e = let f : false ≡ true = get-replicate n k false true e in cc
 
 none_marked : (n : ℕ) → AreMarked [] (replicate n false)
 none_marked n = record {

@@ -7,16 +7,13 @@ use Rattle.std.proofs.lemmas.List.FromFn.{length-map-range_with_len, get_or-map-
 use Rattle.std.proofs.lemmas.List.Elements.{All-contains, All-push, All-set, Contains-append_cases}
 use Rattle.std.proofs.lemmas.Option.{same_Some, none-some, slice_get-get_or}
 use Rattle.cj_ir.specs.declared.language.Label.{Label}
+use Rattle.cj_ir.proofs.Members.{contains-none, contains-one, contains-head, contains-tail, contains-cases, all-from_contains}
 use Rattle.cj_links.specs.declared.edges.EdgeId.{EdgeId}
 use Rattle.cj_links.specs.declared.edges.Node.{Node}
 use Rattle.cj_links.specs.EdgeTable.{EdgeTable, edge_table, label_of, edge_of, end_of, without, IsLinked, IsBetween, unlinked, linked, led_to, IsWoven}
 use Rattle.cj_links.specs.Threads.{after_of, before_of, lead, Chain, nodes_of, edge_at, walk, walks, table_of, IsThreaded}
-use Rattle.cj_links.proofs.ListReads.{contains-none, contains-one}
-use Rattle.cj_links.proofs.Members.{same_edge, contains-head, contains-tail, contains-cases, all-from_contains, nodes-contain, node-edge, nodes-listed, nodes-apart, without-contains, without-gone, without-once, without-count, few_edges, append-once, nodes-without, nodes-append}
+use Rattle.cj_links.proofs.Members.{same_edge, nodes-contain, node-edge, nodes-listed, nodes-apart, without-contains, without-gone, without-once, without-count, few_edges, append-once, nodes-without, nodes-append}
 use Rattle.cj_links.proofs.Chains.{length-lead, chain_lead, chain_last, chain_before, chain_first, chain_after, cut, lead_both, join}
-
-pub same_label : (x y : Label) → x.0 ≡ y.0 → x ≡ y
-same_label x y e = ap label_of e
 
 pub other_default : {X : Type 0} (xs : List X) (k : ℕ) (d e : X) → k < length xs → get_or xs k d ≡ get_or xs k e
 other_default xs k d e h = same_Some (get_or xs k d) (get_or xs k e) (sym (slice_get-get_or xs k d h) ∙ slice_get-get_or xs k e h)

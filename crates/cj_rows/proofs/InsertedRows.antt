@@ -3,13 +3,14 @@ use Rattle.std.proofs.Common.{◌≡◌, ◌≢◌, ℕ, zero, suc, ◌+◌, ◌
 use Rattle.std.specs.Option.{option_map}
 use Rattle.std.proofs.lemmas.Option.{same_Some, none-some}
 use Rattle.cj_ir.specs.declared.language.Label.{Label}
+use Rattle.cj_ir.proofs.Labels.{label_cases}
 use Rattle.cj_draft.specs.declared.code.Place.{Place}
 use Rattle.cj_draft.specs.declared.code.Code.{Code}
 use Rattle.cj_draft.specs.Arrives.{place_at}
 use Rattle.cj_draft.specs.Sound.{guard_next, RowWithin}
 use Rattle.cj_draft.proofs.Rows.{RowPasses}
 use Rattle.cj_rows.specs.Rows.{guard_at, guards_after, guards_before, fresh_row}
-use Rattle.cj_rows.proofs.RowLemmas.{guard_place, no_row, one_row, row_next, row_ends, row_within, exact_row, Leads, no_cycle, label_cases, leads_before}
+use Rattle.cj_rows.proofs.RowLemmas.{guard_place, no_row, one_row, row_next, row_ends, row_within, exact_row, Leads, no_cycle, leads_before}
 
 -- the guards of the new code: those of the old one, with edges to l led to a, and that at a, which goes on to l
 pub record HasGuardsOf (code code' : Code) (l a : Label) (r : Label → Label) : Type 0 where

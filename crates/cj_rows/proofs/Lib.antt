@@ -3,3 +3,4 @@ pub mod GuardRows
 pub mod RowLemmas
 pub mod InsertedRows
 pub mod Room
+pub mod WithPairs

@@ -1,14 +1,15 @@
 -- Rows by the guards at labels, and the labels that lead to one.
-use Rattle.std.proofs.Common.{◌≡◌, ◌≢◌, ℕ, zero, suc, ◌+◌, ◌-◌, ◌<◌, ◌≤◌, ◌⊎◌, length, Option, Some, None, refl, sym, ap, ◌∙◌, subst, inl, inr, ⊎_elim, arith}
+use Rattle.std.proofs.Common.{◌≡◌, ◌≢◌, ℕ, zero, suc, ◌+◌, ◌-◌, ◌<◌, ◌≤◌, length, Option, Some, None, refl, sym, ap, ◌∙◌, subst, arith}
 use Rattle.std.proofs.lemmas.Option.{same_Some, none-some}
-use Rattle.std.proofs.lemmas.Bool.{cases_eq, eq-eqb}
+use Rattle.std.proofs.lemmas.Bool.{eq-eqb, ne_eqb}
 use Rattle.cj_ir.specs.declared.language.Label.{Label}
+use Rattle.cj_ir.proofs.Labels.{same_label}
 use Rattle.cj_draft.specs.declared.code.Place.{Place}
 use Rattle.cj_draft.specs.declared.code.Code.{Code}
 use Rattle.cj_draft.specs.Arrives.{place_at}
 use Rattle.cj_draft.specs.Sound.{guard_next, RowWithin}
 use Rattle.cj_rows.specs.Rows.{guard_in, guard_at, guards_after, one_step, steps_to, or_none, guards_before}
-use Rattle.cj_rows.proofs.GuardRows.{after_some, steps_here, steps_some, differ-eqb, greatest_above}
+use Rattle.cj_rows.proofs.GuardRows.{after_some, steps_here, steps_some, greatest_above}
 
 -- ---- rows by the guards at labels
 
@@ -97,22 +98,13 @@ no_cycle code l k n leads row = again (suc n) n (omega arith) row
         let le : suc k ≤ m = shorter.0 in
         again fuel (m - suc k) (omega arith) shorter.1
 
-pub same_label : (x y : Label) → x.0 ≡ y.0 → x ≡ y
-same_label x y e = ap label e
-  where
-    label : ℕ → Label
-    label n = record { 0 = n }
-
 pub leads_steps : (code : Code) (l : Label) (k n : ℕ) (x : Label) → RowWithin code 8 l → k ≤ n → Leads code l k x → steps_to code l n x ≡ Some k
 unfolding one_step
 leads_steps code l zero n x row h e = steps_here code l n x (eq-eqb x.0 l.0 (ap (λ (y : Label). y.0) e))
 leads_steps code l (suc k) zero x row h leads = absurd (omega arith)
 leads_steps code l (suc k) (suc n) x row h leads =
     let differs : x.0 ≢ l.0 = λ e. no_cycle code l k 8 (subst (Leads code l (suc k)) (same_label x l e) leads) row in
-    steps_some code l n x leads.0 (differ-eqb x.0 l.0 differs) leads.1 ∙ ap one_step (leads_steps code l k n leads.0 row (omega arith) leads.2)
-
-pub label_cases : (x y : Label) → (x ≡ y) ⊎ (x ≢ y)
-label_cases x y = ⊎_elim (λ e. inl (same_label x y e)) (λ ne. inr (λ e. ne (ap (λ (z : Label). z.0) e))) (cases_eq x.0 y.0)
+    steps_some code l n x leads.0 (ne_eqb x.0 l.0 differs) leads.1 ∙ ap one_step (leads_steps code l k n leads.0 row (omega arith) leads.2)
 
 -- what leads to a label is counted
 pub leads_before : (code : Code) (l : Label) → ((x : Label) → RowWithin code 8 x) → (k : ℕ) (x : Label) → x.0 < length code.places → Leads code l k x → k ≤ guards_before code l

@@ -1,6 +1,8 @@
 -- Rows of Assumes and Anchors. At most 8 follow each other in a sound code.
 use Rattle.std.specs.Prelude.{ℕ, zero, suc, ◌+◌, max, Bool, true, false, nat_eq, length, Option, Some, None}
 use Rattle.cj_ir.specs.declared.language.Label.{Label}
+use Rattle.cj_draft.specs.declared.instructions.VInstr.{VInstr}
+use Rattle.cj_draft.specs.declared.instructions.VInstr.TheVariants.{Anchor}
 use Rattle.cj_draft.specs.declared.code.Place.{Place}
 use Rattle.cj_draft.specs.declared.code.Code.{Code}
 use Rattle.cj_draft.specs.Arrives.{place_at}
@@ -13,6 +15,19 @@ guard_in (Some place) = guard_next place.instr
 -- the next label of the Assume or Anchor at a label, where there is one
 unfoldable pub guard_at : Code → Label → Option Label
 guard_at code label = guard_in (place_at code label)
+
+-- the next label of an Anchor
+unfoldable pub anchor_next : VInstr → Option Label
+anchor_next (Anchor back target next) = Some next
+anchor_next instr = None
+
+unfoldable pub anchor_in : Option Place → Option Label
+anchor_in None = None
+anchor_in (Some place) = anchor_next place.instr
+
+-- the next label of the Anchor at a label, where there is one
+unfoldable pub anchor_at : Code → Label → Option Label
+anchor_at code label = anchor_in (place_at code label)
 
 unfoldable pub one_more : Option Label → (Label → ℕ) → ℕ
 one_more None count = 0

@@ -7,4 +7,4 @@ pub mod rows;
 
 pub use pairs::{has_pair, with_pair};
 pub use rooms::room_offence;
-pub use rows::{MAX_ROW, fresh_row, guard_at, guards_after, guards_before};
+pub use rows::{MAX_ROW, anchor_at, anchor_next, fresh_row, guard_at, guards_after, guards_before};

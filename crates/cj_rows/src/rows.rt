@@ -1,7 +1,7 @@
 //! Rows of Assumes and Anchors.
 
 ghost use Rattle.std.specs.Prelude.{◌≡◌, ◌≤◌, ◌<◌, max, length};
-ghost use Rattle.cj_rows.specs.Rows.{guard_at, guards_after, steps_to, guards_before, fresh_row};
+ghost use Rattle.cj_rows.specs.Rows.{guard_at, anchor_next, anchor_at, guards_after, steps_to, guards_before, fresh_row};
 
 use cj_draft::{Code, VInstr};
 use cj_ir::Label;
@@ -20,6 +20,28 @@ pub fn guard_at(code: &Code, label: Label) -> Option<Label>
             VInstr::Assume { next, .. } | VInstr::Anchor { next, .. } => Some(next),
             _ => None,
         },
+    }
+}
+
+/// The next label of an Anchor. `None`: another instruction.
+#[tactic(auto, unfolding(crate::specs::Rows::anchor_next))]
+pub fn anchor_next(instr: &VInstr) -> Option<Label>
+    ensures { result ≡ anchor_next instr.now }
+{
+    match *instr {
+        VInstr::Anchor { next, .. } => Some(next),
+        _ => None,
+    }
+}
+
+/// The next label of the Anchor at a label. `None`: there is no such label, or another instruction is there.
+#[tactic(auto, unfolding(crate::specs::Rows::anchor_at, crate::specs::Rows::anchor_in))]
+pub fn anchor_at(code: &Code, label: Label) -> Option<Label>
+    ensures { result ≡ anchor_at code.now label }
+{
+    match code.places.items().get(label.0 as usize) {
+        None => None,
+        Some(place) => anchor_next(&place.instr),
     }
 }
 

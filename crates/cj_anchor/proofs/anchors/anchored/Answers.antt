@@ -3,9 +3,10 @@ use Rattle.cj_ir.specs.declared.language.Label.{Label}
 use Rattle.cj_draft.specs.declared.code.Place.{Place}
 use Rattle.cj_draft.specs.declared.code.Code.{Code}
 use Rattle.cj_draft.specs.Arrives.{place_at}
+use Rattle.cj_draft.specs.Edges.{fresh_label, led_to}
 use Rattle.cj_anchor.specs.Lowering.{led_place}
 use Rattle.cj_anchor.specs.Search.{IsTable, given}
-use Rattle.cj_anchor.specs.AnchorInsertion.{to_anchor, fresh_label, anchored}
+use Rattle.cj_anchor.specs.AnchorInsertion.{anchored}
 use Rattle.cj_rows.proofs.ListReads.{get-read}
 use Rattle.cj_anchor.proofs.Keeping.{all_led_alike}
 use Rattle.cj_anchor.proofs.Tables.{numbered, given_in}
@@ -21,11 +22,11 @@ returns c =
     let label = c.args.label in
     let n = length code.places in
     let table = c.in_ok-table.table in
-    let r = to_anchor label (fresh_label code) in
+    let r = led_to label (fresh_label code) in
     let place = c.index-items-label.result in
     let fresh = c.in_ok-place.place in
     let at : place_at code label ≡ Some place = get-read code.places c.items.result.now label.0 place c.items.ensures c.requires.within c.index-items-label.is in
-    let is_table : IsTable r n table = subst (λ (ps : List Place). IsTable (to_anchor label (numbered (length ps))) (length ps) table) c.items-labels.ensures c.in_ok-table.ensures in
+    let is_table : IsTable r n table = subst (λ (ps : List Place). IsTable (led_to label (numbered (length ps))) (length ps) table) c.items-labels.ensures c.in_ok-table.ensures in
     let entry = c.given-entry.ensures ∙ ap (λ (t : List Label). given t code.entry) c.items-2.ensures ∙ given_in r n table code.entry is_table c.requires.closed.entry in
     let old = c.in_ok-places.ensures ∙ ap (λ (t : List Label). map (led_place (given t)) code.places) c.items-3.ensures
     ∙ all_led_alike (given table) r n (λ x h. given_in r n table x is_table h) code.places c.requires.closed.edges in

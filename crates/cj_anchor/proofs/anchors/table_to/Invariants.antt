@@ -1,6 +1,6 @@
-use Rattle.cj_anchor.specs.AnchorInsertion.{to_anchor}
+use Rattle.cj_draft.specs.Edges.{led_to}
 use Rattle.cj_anchor.specs.Search.{IsTable}
 use Rattle.cj_anchor.proofs.anchors.table_to.Given as goal
 
 abbrev pub invariant-loop-from : goal.invariant-loop-from
-invariant-loop-from l = IsTable (to_anchor l.label l.anchor) l.from l.table
+invariant-loop-from l = IsTable (led_to l.label l.anchor) l.from l.table

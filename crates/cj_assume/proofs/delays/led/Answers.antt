@@ -3,8 +3,9 @@ use Rattle.std.specs.Prelude.{slice_set}
 use Rattle.cj_ir.specs.declared.language.Label.{Label}
 use Rattle.cj_draft.specs.declared.instructions.VInstr.{VInstr}
 use Rattle.cj_draft.specs.declared.code.Place.{Place}
+use Rattle.cj_draft.specs.Edges.{fresh_label}
 use Rattle.cj_rows.proofs.ListReads.{get-read}
-use Rattle.cj_assume.specs.ImmediateAssume.{with_instr, with_places, fresh_label}
+use Rattle.cj_assume.specs.ImmediateAssume.{with_instr, with_places}
 use Rattle.cj_assume.specs.DelayedAssume.{led_edge}
 use Rattle.cj_assume.proofs.delays.led.Goals as goal
 

@@ -3,7 +3,8 @@ use Rattle.std.specs.Prelude.{All}
 use Rattle.std.proofs.lemmas.List.Elements.{All-cons, All-nil, All-append, All-weaker}
 use Rattle.cj_ir.specs.declared.language.Label.{Label}
 use Rattle.cj_draft.specs.declared.code.Place.{Place}
-use Rattle.cj_assume.specs.DelayedAssume.{successors, all_nexts}
+use Rattle.cj_draft.specs.Edges.{successors}
+use Rattle.cj_assume.specs.DelayedAssume.{all_nexts}
 use Rattle.cj_assume.specs.CountedEdges.{AreNextsWithin}
 use Rattle.cj_assume.proofs.path_tests.anchored.Goals as goal
 

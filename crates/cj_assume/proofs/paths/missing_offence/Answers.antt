@@ -1,4 +1,4 @@
-use Rattle.std.proofs.Common.{◌≡◌, ◌<◌, ◌≤◌, ℕ, length, get_or, ap, sym, subst}
+use Rattle.std.proofs.Common.{◌<◌, ◌≤◌, ℕ, length, get_or, ap, subst}
 use Rattle.cj_ir.specs.declared.language.Label.{Label}
 use Rattle.cj_assume.proofs.MissingLabels.{missing_found, missing_past, missing_none}
 use Rattle.cj_assume.proofs.paths.missing_offence.Goals as goal

@@ -6,7 +6,7 @@ use Rattle.cj_rows.proofs.ListReads.{get-read}
 use Rattle.cj_inline.specs.Inlining.{seam_at}
 use Rattle.cj_inline.specs.declared.seams.Seam.{Seam}
 use Rattle.cj_inline.proofs.InlineSound.{inlined_is}
-use Rattle.cj_inline.proofs.Wider.{place_wider}
+use Rattle.cj_draft.proofs.Wider.{place_wider}
 use Rattle.cj_inline.proofs.inlining.inlined.Goals as goal
 
 pub shifted_label-entry-requires-clause-few : goal.shifted_label-entry-requires-clause-few

@@ -1,4 +1,4 @@
-use Rattle.std.proofs.Common.{◌≡◌, refl, ap, sym, ◌∙◌, subst, List, [], ◌∷◌, ◌++◌, Option, None, Some}
+use Rattle.std.proofs.Common.{refl, ap, sym, ◌∙◌, subst, List, None}
 use Rattle.cj_draft.specs.declared.passes.Pass.{Pass}
 use Rattle.cj_draft.specs.declared.passes.Pass.TheVariants.{Anchors, Assume, Delay, Const, Inline}
 use Rattle.cj_draft.specs.declared.facts.Fact.{Fact}

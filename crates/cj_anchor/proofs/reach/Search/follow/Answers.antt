@@ -3,7 +3,8 @@ use Rattle.std.specs.Prelude.{All}
 use Rattle.std.proofs.lemmas.Option.{same_Some}
 use Rattle.cj_ir.specs.declared.language.Label.{Label}
 use Rattle.cj_draft.specs.Arrives.{place_at}
-use Rattle.cj_anchor.specs.Lowering.{passed, successors, Reached}
+use Rattle.cj_draft.specs.Edges.{successors}
+use Rattle.cj_anchor.specs.Lowering.{passed, Reached}
 use Rattle.cj_anchor.specs.Search.{AreLed}
 use Rattle.cj_rows.proofs.ListReads.{get-read}
 use Rattle.cj_anchor.proofs.Searching.{reached_within, reached_edges, edges_within}
@@ -20,7 +21,7 @@ visit_all-requires-clause-within c =
     let place = c.index-items-label.result in
     let inside = reached_within code x c.requires.closed (c.requires.search.reached x c.requires.found) in
     let at : place_at code x ≡ Some place = get-read code.places c.items.result.now x.0 place c.items.ensures inside c.index-items-label.is in
-    subst (λ nexts. All (λ (next : Label). next.0 < length code.places) nexts) (sym c.edges_of.ensures) (edges_within code x place c.requires.closed at)
+    subst (λ nexts. All (λ (next : Label). next.0 < length code.places) nexts) (sym c.successors.ensures) (edges_within code x place c.requires.closed at)
 
 pub visit_all-requires-clause-reached : goal.visit_all-requires-clause-reached
 visit_all-requires-clause-reached c =
@@ -30,7 +31,7 @@ visit_all-requires-clause-reached c =
     let reached = c.requires.search.reached x c.requires.found in
     let inside = reached_within code x c.requires.closed reached in
     let at : place_at code x ≡ Some place = get-read code.places c.items.result.now x.0 place c.items.ensures inside c.index-items-label.is in
-    subst (λ nexts. All (λ (next : Label). Reached code (passed code next)) nexts) (sym c.edges_of.ensures) (reached_edges code x place reached at)
+    subst (λ nexts. All (λ (next : Label). Reached code (passed code next)) nexts) (sym c.successors.ensures) (reached_edges code x place reached at)
 
 pub returns-clause-followed : goal.returns-clause-followed
 returns-clause-followed c = λ place at.
@@ -42,4 +43,4 @@ returns-clause-followed c = λ place at.
     let here : place_at code x ≡ Some read = get-read code.places c.items.result.now x.0 read c.items.ensures inside c.index-items-label.is in
     let same : read ≡ place = same_Some read place (sym here ∙ at) in
     subst (λ p. AreLed code found (successors p.instr)) same
-    (subst (AreLed code found) c.edges_of.ensures c.in_ok-visit_all.ensures.found)
+    (subst (AreLed code found) c.successors.ensures c.in_ok-visit_all.ensures.found)

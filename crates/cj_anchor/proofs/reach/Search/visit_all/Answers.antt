@@ -2,8 +2,9 @@ use Rattle.std.proofs.Common.{sym, subst, [], ◌∷◌}
 use Rattle.std.specs.Prelude.{All}
 use Rattle.std.proofs.lemmas.List.Elements.{All-head, All-tail}
 use Rattle.cj_ir.specs.declared.language.Label.{Label}
+use Rattle.cj_draft.specs.Edges.{listed}
 use Rattle.cj_anchor.specs.Lowering.{passed, Reached}
-use Rattle.cj_anchor.specs.Search.{listed, AreLed}
+use Rattle.cj_anchor.specs.Search.{AreLed}
 use Rattle.cj_anchor.proofs.Searching.{led_none, led_more, grows_contains}
 use Rattle.cj_anchor.proofs.reach.Search.visit_all.Goals as goal
 

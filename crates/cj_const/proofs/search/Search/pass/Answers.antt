@@ -4,8 +4,9 @@ use Rattle.std.specs.Option.{option_map}
 use Rattle.cj_draft.specs.WellNamed.{IsPlaceFine}
 use Rattle.cj_draft.specs.Arrives.{place_at}
 use Rattle.cj_draft.proofs.Lists.{all_at}
+use Rattle.cj_draft.proofs.EdgeLemmas.{successor_within}
 use Rattle.cj_const.specs.Knowledge.{known}
-use Rattle.cj_const.proofs.SearchCalls.{read-at, place-read, next-within, arrival-wide, passed-unreached, passed-nothing}
+use Rattle.cj_const.proofs.SearchCalls.{read-at, place-read, arrival-wide, passed-unreached, passed-nothing}
 use Rattle.cj_const.proofs.SearchSteps.{row-arrived, arrived-work}
 use Rattle.cj_const.proofs.search.Search.pass.Goals as goal
 
@@ -34,7 +35,7 @@ arrive-requires-clause-within c =
     let p = c.index-items-label.result in
     let at : place_at draft.code c.args.label ≡ Some p = place-read draft.code c.code.result.now c.items.result.now c.args.label p c.code.ensures.same c.items.ensures c.requires.within c.index-items-label.is in
     let fine = all_at (IsPlaceFine draft.program draft.code.regs (length draft.code.places)) draft.code.places c.args.label.0 p c.code.ensures.sound.named.places at in
-    let inside = next-within draft.program draft.code.regs (length draft.code.places) p.instr c.args.to fine.instr (c.requires.edge p at) in
+    let inside = successor_within draft.program draft.code.regs (length draft.code.places) p.instr c.args.to fine.instr (c.requires.edge p at) in
     omega (arith, inside, c.requires.begun.found.count)
 
 pub arrive-requires-clause-waiting : goal.arrive-requires-clause-waiting
@@ -43,7 +44,7 @@ arrive-requires-clause-waiting c =
     let p = c.index-items-label.result in
     let at : place_at draft.code c.args.label ≡ Some p = place-read draft.code c.code.result.now c.items.result.now c.args.label p c.code.ensures.same c.items.ensures c.requires.within c.index-items-label.is in
     let fine = all_at (IsPlaceFine draft.program draft.code.regs (length draft.code.places)) draft.code.places c.args.label.0 p c.code.ensures.sound.named.places at in
-    let inside = next-within draft.program draft.code.regs (length draft.code.places) p.instr c.args.to fine.instr (c.requires.edge p at) in
+    let inside = successor_within draft.program draft.code.regs (length draft.code.places) p.instr c.args.to fine.instr (c.requires.edge p at) in
     omega (arith, inside, c.requires.begun.waiting.labels)
 
 pub returns-clause-work : goal.returns-clause-work
@@ -54,7 +55,7 @@ returns-clause-work c =
     let p = c.index-items-label.result in
     let at : place_at draft.code c.args.label ≡ Some p = place-read draft.code c.code.result.now c.items.result.now c.args.label p c.code.ensures.same c.items.ensures c.requires.within c.index-items-label.is in
     let fine = all_at (IsPlaceFine draft.program draft.code.regs (length draft.code.places)) draft.code.places c.args.label.0 p c.code.ensures.sound.named.places at in
-    let next = next-within draft.program draft.code.regs (length draft.code.places) p.instr c.args.to fine.instr (c.requires.edge p at) in
+    let next = successor_within draft.program draft.code.regs (length draft.code.places) p.instr c.args.to fine.instr (c.requires.edge p at) in
     let inside : c.args.label.0 < length rows = omega (arith, c.requires.within, c.requires.begun.found.count) in
     let there : c.args.to.0 < length rows = omega (arith, next, c.requires.begun.found.count) in
     let row : slice_index_or rows c.args.label.0 None ≡ Some c.in-Some.row = read-at rows c.items-2.result.now c.args.label.0 c.index-items-label-2.result None c.items-2.ensures inside c.index-items-label-2.is ∙ c.in-Some.is in
@@ -69,7 +70,7 @@ returns-clause-passed c = λ left s.
     let p = c.index-items-label.result in
     let at : place_at draft.code c.args.label ≡ Some p = place-read draft.code c.code.result.now c.items.result.now c.args.label p c.code.ensures.same c.items.ensures c.requires.within c.index-items-label.is in
     let fine = all_at (IsPlaceFine draft.program draft.code.regs (length draft.code.places)) draft.code.places c.args.label.0 p c.code.ensures.sound.named.places at in
-    let next = next-within draft.program draft.code.regs (length draft.code.places) p.instr c.args.to fine.instr (c.requires.edge p at) in
+    let next = successor_within draft.program draft.code.regs (length draft.code.places) p.instr c.args.to fine.instr (c.requires.edge p at) in
     let inside : c.args.label.0 < length rows = omega (arith, c.requires.within, c.requires.begun.found.count) in
     let there : c.args.to.0 < length rows = omega (arith, next, c.requires.begun.found.count) in
     let row : slice_index_or rows c.args.label.0 None ≡ Some c.in-Some.row = read-at rows c.items-2.result.now c.args.label.0 c.index-items-label-2.result None c.items-2.ensures inside c.index-items-label-2.is ∙ c.in-Some.is in

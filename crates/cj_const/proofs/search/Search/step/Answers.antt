@@ -3,7 +3,7 @@ use Rattle.std.specs.Prelude.{slice_get}
 use Rattle.cj_ir.specs.declared.language.Label.{Label}
 use Rattle.cj_draft.specs.Arrives.{place_at}
 use Rattle.cj_draft.proofs.Lists.{all_at}
-use Rattle.cj_const.specs.Search.{listed}
+use Rattle.cj_draft.specs.Edges.{listed}
 use Rattle.cj_const.proofs.SearchCalls.{place-read, following-of, edges-of, search-of, taken-work}
 use Rattle.cj_const.proofs.search.Search.step.Goals as goal
 
@@ -17,7 +17,7 @@ pass_all-requires-clause-following c =
     let low = all_at (λ (x : Label). x.0 < w.labels) w.list 0 label c.requires.waiting.orderly.within first in
     let inside : label.0 < length draft.code.places = omega (arith, low, c.requires.waiting.labels) in
     let at : place_at draft.code label ≡ Some p = place-read draft.code c.code.result.now c.items.result.now label p c.code.ensures.same c.items.ensures inside c.index-items-label.is in
-    following-of draft.context draft.code c.args.self.now.rows w c.take.new.self label p (listed c.nexts_of.result) at c.nexts_of.ensures first c.take.ensures.rest c.take.ensures.orderly c.requires
+    following-of draft.context draft.code c.args.self.now.rows w c.take.new.self label p (listed c.successors.result) at c.successors.ensures first c.take.ensures.rest c.take.ensures.orderly c.requires
 
 pub pass_all-requires-clause-edges : goal.pass_all-requires-clause-edges
 pass_all-requires-clause-edges c =
@@ -29,7 +29,7 @@ pass_all-requires-clause-edges c =
     let low = all_at (λ (x : Label). x.0 < w.labels) w.list 0 label c.requires.waiting.orderly.within first in
     let inside : label.0 < length draft.code.places = omega (arith, low, c.requires.waiting.labels) in
     let at : place_at draft.code label ≡ Some p = place-read draft.code c.code.result.now c.items.result.now label p c.code.ensures.same c.items.ensures inside c.index-items-label.is in
-    edges-of draft.code label p (listed c.nexts_of.result) at c.nexts_of.ensures
+    edges-of draft.code label p (listed c.successors.result) at c.successors.ensures
 
 pub returns-clause-search : goal.returns-clause-search
 returns-clause-search c =

@@ -61,7 +61,7 @@ module _ (P : Program) (n n' k k' : ℕ) (regs : n ≤ n') (labels : k ≤ k') w
     operands = All-weaker (λ (p : Pair). IsOperandWithin n p.value) (λ (p : Pair). IsOperandWithin n' p.value) (λ p. operand_wider p.value) ps h.operands;
   }
 
-  instr_wider : (i : VInstr) → IsVInstrFine P n k i → IsVInstrFine P n' k' i
+  pub instr_wider : (i : VInstr) → IsVInstrFine P n k i → IsVInstrFine P n' k' i
   instr_wider (Nop x) h = omega arith
   instr_wider (Op d e x) h = let v : d.0 < n = h.0 in let w : x.0 < k = h.2 in (omega arith, expr_wider e h.1, omega arith)
   instr_wider (Move ps x) h = let w : x.0 < k = h.1 in (pairs_wider ps h.0, omega arith)

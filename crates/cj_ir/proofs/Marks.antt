@@ -7,10 +7,10 @@ use Rattle.std.proofs.lemmas.Option.{same_Some, none-some}
 abbrev pub count_marks : List Bool → ℕ
 count_marks marks = count_by (λ mark. mark) marks
 
-count-true : (marks : List Bool) → count_marks (true ∷ marks) ≡ count_marks marks + 1
+pub count-true : (marks : List Bool) → count_marks (true ∷ marks) ≡ count_marks marks + 1
 count-true marks = let h : count_marks (true ∷ marks) ≡ 1 + count_marks marks = sum_by-cons (λ (k : Bool). cond k 1 0) true marks in omega arith
 
-count-false : (marks : List Bool) → count_marks (false ∷ marks) ≡ count_marks marks
+pub count-false : (marks : List Bool) → count_marks (false ∷ marks) ≡ count_marks marks
 count-false marks = let h : count_marks (false ∷ marks) ≡ 0 + count_marks marks = sum_by-cons (λ (k : Bool). cond k 1 0) false marks in omega arith
 
 pub count-none : (n : ℕ) → count_marks (replicate n false) ≡ 0
@@ -36,3 +36,9 @@ pub count-below : (marks : List Bool) (i : ℕ) → slice_get marks i ≡ Some f
 count-below marks i e =
     let most = count_by-le-length (λ (k : Bool). k) (slice_set marks i true) in
     omega (arith, count-set marks i e, length-set marks i true, most)
+
+-- where none is marked, no mark is read
+pub no_mark : (n k : ℕ) → slice_get (replicate n false) k ≡ Some true → ⊥
+no_mark zero k e = none-some true e
+no_mark (suc n) zero e = let f : false ≡ true = same_Some false true e in cc
+no_mark (suc n) (suc k) e = no_mark n k e
