@@ -1,6 +1,6 @@
 //! The input that a number stands for.
 
-ghost use Rattle.std.specs.Prelude.{◌≡◌, ◌≤◌, IfOk};
+ghost use Rattle.std.specs.Prelude.{◌≡◌, IfOk};
 ghost use Rattle.cj_ir.specs.WellFormed.{IsWellFormed};
 ghost use Rattle.cj_script.specs.Fitting.{FitsScript};
 ghost use Rattle.cj_bench.specs.Generated.{generated, generated_text};
@@ -12,7 +12,7 @@ use cj_ir::{Checked, Input, NoMemory, Program, Script, Setups, check};
 use cj_printer::print_input;
 use std::alloc::Global;
 
-/// The input of a number of at most 999,999.
+/// The input of a number.
 ///
 /// Its program has 32 functions, `f0` to `f31`, each of which calls the next one, and its script 256 calls of `f0`,
 /// each with 64 cells and a limit of 15,000 turns. All constants and arguments are drawn, one behind the other,
@@ -23,7 +23,6 @@ use std::alloc::Global;
 /// call draws its two arguments (`% 1000` and `% 5`).
 #[tactic(auto, unfolding(crate::specs::Generated::generated, crate::specs::Generated::generated_program, crate::specs::Generated::generated_script))]
 pub fn generated(alloc: Global, number: u32) -> Result<Input, NoMemory>
-    requires { number ≤ 999999 }
     ensures input { IfOk result (λ input. input ≡ generated number) }
     ensures fits { IfOk result (λ input. FitsScript input.checked input.script) }
 {
@@ -47,10 +46,9 @@ fn checked(program: Program) -> Checked
     }
 }
 
-/// The canonical text of the input of a number of at most 999,999.
+/// The canonical text of the input of a number.
 #[tactic(auto, unfolding(crate::specs::Generated::generated_text))]
 pub fn generate(alloc: Global, number: u32) -> Result<Vec<u8>, NoMemory>
-    requires { number ≤ 999999 }
     ensures { IfOk result (λ text. text.items ≡ generated_text number) }
 {
     let input = generated(alloc, number)?;

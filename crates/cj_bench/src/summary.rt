@@ -16,7 +16,6 @@ use std::alloc::Global;
 /// 2^64 into the range of values.
 #[tactic(auto, unfolding(crate::specs::Summary::summary_text))]
 pub fn summary_of(alloc: Global, number: u32, reports: &Reports) -> Result<Vec<u8>, NoMemory>
-    requires { number ≤ 999999 }
     ensures { IfOk result (λ text. text.items ≡ summary_text number reports.now) }
 {
     let reports = reports.items();

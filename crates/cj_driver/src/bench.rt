@@ -5,7 +5,7 @@ use std::test::Fail;
 
 #[test]
 fn bench_7_writes_its_summary(rt: HostRuntime) -> Result<(), Fail> {
-    let text = "bench 7\ncalls 256\nreturns 256\nprints 8192\nsum SUM\n";
+    let text = "bench 7\ncalls 256\nreturns 256\nprints 8192\nsum 3586\n";
     // the source is not read
     check(&rt, rt.alloc(), &["bench", "7"], b"?", 0, text)
 }

@@ -1,12 +1,12 @@
 //! The top call.
 
-ghost use Rattle.std.specs.Prelude.{◌≡◌, map};
+ghost use Rattle.std.specs.Prelude.{◌≡◌, map, ℕ, List, Option};
 ghost use Rattle.std.specs.String.{string_bytes};
 ghost use Rattle.cj_script.specs.Fitting.{FitsScript};
 ghost use Rattle.cj_events.specs.Fitting.{FitsEvents};
 ghost use Rattle.cj_driver.specs.Commands.{command_of};
 ghost use Rattle.cj_driver.specs.Outside.{outside};
-ghost use Rattle.cj_driver.specs.Answers.{Answers, ByWords};
+ghost use Rattle.cj_driver.specs.Answers.{Answers, AnswersBench, ByWords};
 ghost use Rattle.cj_driver.specs.Steps.{Finishes, StopFinishes, Writes};
 ghost use Rattle.cj_driver.specs.Texts.{Owes, OwesSummary};
 ghost use Rattle.cj_driver.specs.declared.command.Task.TheVariants.{OnInput, OnReplay};
@@ -93,14 +93,11 @@ fn answer_replay<S: Source, K: Sink>(
     }
 }
 
-/// What is answered for the generated input of a number.
+/// What is answered for the bench of a number, whatever the source is.
 fn answer_bench<K: Sink>(alloc: Global, number: u32, sink: &mut K) -> Finish
-    ensures { Finishes (OwesSummary number) (K.written sink.old) (K.written sink.new) (K.faults sink.old) (K.faults sink.new) result }
+    ensures { (given : Option (List ℕ)) (reads : ℕ) → AnswersBench number (outside given given (K.written sink.old) (K.written sink.new) reads reads (K.faults sink.old) (K.faults sink.new)) result }
 {
-    match perform_bench(alloc, number) {
-        Ok(answer) => write_answer(answer, sink),
-        Err(NoMemory) => Finish::stopped(alloc, 6, None),
-    }
+    finish_bench(alloc, number, sink)
 }
 
 /// How a call ends where no text was read.
@@ -138,6 +135,16 @@ fn finish_replay<K: Sink>(
     ensures { Finishes (Owes (OnReplay stats) (checked.now, events.now)) (K.written sink.old) (K.written sink.new) (K.faults sink.old) (K.faults sink.new) result }
 {
     match perform_play(alloc, stats, checked, events) {
+        Ok(answer) => write_answer(answer, sink),
+        Err(NoMemory) => Finish::stopped(alloc, 6, None),
+    }
+}
+
+/// Runs the calls of the generated input, and writes the summary.
+fn finish_bench<K: Sink>(alloc: Global, number: u32, sink: &mut K) -> Finish
+    ensures { Finishes (OwesSummary number) (K.written sink.old) (K.written sink.new) (K.faults sink.old) (K.faults sink.new) result }
+{
+    match perform_bench(alloc, number) {
         Ok(answer) => write_answer(answer, sink),
         Err(NoMemory) => Finish::stopped(alloc, 6, None),
     }
