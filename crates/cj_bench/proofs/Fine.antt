@@ -1,5 +1,5 @@
 -- A generated program is well-formed, and its script fits it.
-use Rattle.std.proofs.Common.{◌≡◌, ◌∙◌, sym, ap, refl, subst, ℕ, ◌+◌, ◌*◌, ◌<◌, ◌≤◌, List, [], length, All, Some, Ok, arith, get_or, slice_get}
+use Rattle.std.proofs.Common.{◌≡◌, sym, refl, subst, ℕ, ◌*◌, ◌<◌, ◌≤◌, List, [], length, All, Ok, arith}
 use Rattle.std.specs.Prelude.{map, sum_by}
 use Rattle.std.specs.Fmt.{digits}
 use Rattle.std.specs.List.{range_with_len}
@@ -8,12 +8,10 @@ use Rattle.std.proofs.lemmas.List.FromFn.{length-map-range_with_len, get_or-map-
 use Rattle.std.proofs.lemmas.List.Sums.{sum_by-le}
 use Rattle.cj_ir.specs.Verdicts.{program_verdict}
 use Rattle.cj_ir.specs.WellFormed.{IsWellFormed, Takes}
-use Rattle.cj_ir.specs.declared.language.FunId.{FunId}
 use Rattle.cj_ir.specs.declared.language.Function.{Function}
 use Rattle.cj_ir.specs.declared.language.Program.{Program}
 use Rattle.cj_ir.specs.declared.script.ScriptCall.{ScriptCall}
 use Rattle.cj_ir.specs.declared.script.Setup.{Setup}
-use Rattle.cj_ir.proofs.Grants.{Grants}
 use Rattle.cj_ir.proofs.WellFormedLemmas.{Grants-program}
 use Rattle.cj_script.specs.Fitting.{FitsSetup, FitsCall, FitsScript}
 use Rattle.cj_bench.specs.Generated.{after, lines_of, eighth_of, function_name, function_of, function_drawn, functions_drawn, call_drawn, calls_drawn, generated_program, generated_script}

@@ -1,16 +1,14 @@
 -- Names of a generated program are names, and its constants and arguments are values.
-use Rattle.std.proofs.Common.{◌≡◌, ◌∙◌, refl, subst, zero-add, ℕ, ◌+◌, ◌*◌, ◌%◌, ◌<◌, ◌^◌, ◌==◌, ℤ, pos, List, [], ◌∷◌, All, Bool, true, false, if◌then◌else◌, arith, get_or}
+use Rattle.std.proofs.Common.{◌≡◌, ◌∙◌, refl, subst, zero-add, ℕ, ◌+◌, ◌*◌, ◌%◌, ◌<◌, ◌==◌, ℤ, pos, List, [], ◌∷◌, All, Bool, true, false, if◌then◌else◌, arith, get_or}
 use Rattle.std.specs.Fmt.{digits}
 use Rattle.std.specs.List.{range_with_len, list_all, AllByRecursion}
 use Rattle.std.proofs.lemmas.List.Elements.{All-nil, All-cons}
-use Rattle.std.proofs.lemmas.List.FromFn.{length-range_with_len, get_or-range_with_len}
+use Rattle.std.proofs.lemmas.List.FromFn.{get_or-range_with_len}
 use Rattle.std.proofs.lemmas.List.Sums.{AllPass-from_list_all}
 use Rattle.cj_ir.specs.Texts.{is_name}
-use Rattle.cj_ir.specs.declared.language.Function.{Function}
 use Rattle.cj_ir.specs.declared.language.Instr.{Instr}
 use Rattle.cj_ir.specs.declared.language.Line.{Line}
-use Rattle.cj_ir.specs.declared.language.Operand.{Operand}
-use Rattle.cj_canonical.specs.Written.{IsName, IsValue, IsOperandWritten, IsInstrWritten, IsFunctionWritten, IsProgramWritten, IsSetupWritten, IsCallWritten, IsScriptWritten}
+use Rattle.cj_canonical.specs.Written.{IsValue, IsOperandWritten, IsInstrWritten, IsFunctionWritten, IsProgramWritten, IsSetupWritten, IsCallWritten, IsScriptWritten}
 use Rattle.cj_bench.specs.Generated.{drawn, after, reg, s, b, lines_of, eighth_of, function_name, register_names, function_of, function_drawn, functions_drawn, call_drawn, calls_drawn, generated_program, generated_script}
 use Rattle.cj_bench.proofs.Fine.{all_made}
 

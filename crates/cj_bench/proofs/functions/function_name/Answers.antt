@@ -1,4 +1,4 @@
-use Rattle.std.proofs.Common.{◌≡◌, ◌∙◌, sym, ap, subst, true}
+use Rattle.std.proofs.Common.{◌≡◌, ◌∙◌, sym, ap, subst}
 use Rattle.std.specs.Prelude.{IsTrue, codes, ◌++◌}
 use Rattle.cj_ir.specs.Texts.{is_name}
 use Rattle.cj_bench.specs.Generated.{function_name}

@@ -1,4 +1,4 @@
-use Rattle.std.proofs.Common.{◌≡◌, ◌∙◌, ◌≤◌, ◌<◌, ◌+◌, ◌*◌, ◌^◌, ℕ, List, length, ap, arith}
+use Rattle.std.proofs.Common.{◌∙◌, ◌≤◌, ◌+◌, ℕ, List, length, ap, arith}
 use Rattle.cj_calls.specs.declared.report.Report.{Report}
 use Rattle.cj_bench.proofs.Totals.{prints_turn, prints_end}
 use Rattle.cj_bench.proofs.summary.count_prints.Goals as goal
@@ -8,8 +8,7 @@ loop-report-preserved c =
     let rs : List Report = c.args.reports.now in
     let i : ℕ = c.loop-report.report-index in
     let r : Report = c.report-item.result in
-    let step = ap (λ n. c.loop-report.count + n) (ap length c.items.ensures ∙ ap (λ (x : Report). length x.printed) c.report-item.is) in
-    (
+    let step = ap (λ n. c.loop-report.count + n) (ap length c.items.ensures ∙ ap (λ (x : Report). length x.printed) c.report-item.is) in (
       prints_turn rs i r c.loop-report.count (c.loop-report.count + length c.items.result.now) _ c.loop-report-test.true c.loop-report.invariant.0 step,
       omega (arith, c.loop-report.invariant.1, c.items.type_inv.0),
     )

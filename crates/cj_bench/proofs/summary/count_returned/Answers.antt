@@ -1,4 +1,4 @@
-use Rattle.std.proofs.Common.{◌≡◌, ◌∙◌, ◌≤◌, ◌+◌, ℕ, Bool, true, false, List, length, get_or, refl, ap, arith, if◌then◌else◌}
+use Rattle.std.proofs.Common.{◌≡◌, ◌∙◌, ◌≤◌, ◌+◌, ℕ, List, length, get_or, ap, arith, if◌then◌else◌}
 use Rattle.std.specs.Prelude.{is_some}
 use Rattle.cj_calls.specs.declared.report.Report.{Report}
 use Rattle.cj_bench.specs.Summary.{value_of_end}
@@ -16,8 +16,7 @@ loop-report-preserved c =
     let one : c.from-count.result ≡ (if is_some (value_of_end (get_or rs i r).end) then 1 else 0) =
     c.from-count.ensures ∙ as_one c.is_returned.result _ found
     in
-    let few : c.from-count.result ≤ 1 = at_most_one _ _ one in
-    (
+    let few : c.from-count.result ≤ 1 = at_most_one _ _ one in (
       returns_turn rs i r c.loop-report.count (c.loop-report.count + c.from-count.result) _ c.loop-report-test.true c.loop-report.invariant.0 (ap (λ n. c.loop-report.count + n) one),
       omega (arith, few, c.loop-report.invariant.1),
     )
