@@ -1,5 +1,5 @@
 -- A generated program is well-formed, and its script fits it.
-use Rattle.std.proofs.Common.{◌≡◌, ◌∙◌, sym, ap, refl, subst, ℕ, ◌+◌, ◌*◌, ◌<◌, ◌≤◌, List, length, All, Some, arith, get_or, slice_get}
+use Rattle.std.proofs.Common.{◌≡◌, sym, refl, subst, ℕ, ◌*◌, ◌<◌, ◌≤◌, List, [], length, All, Ok, arith}
 use Rattle.std.specs.Prelude.{map, sum_by}
 use Rattle.std.specs.Fmt.{digits}
 use Rattle.std.specs.List.{range_with_len}
@@ -8,10 +8,10 @@ use Rattle.std.proofs.lemmas.List.FromFn.{length-map-range_with_len, get_or-map-
 use Rattle.std.proofs.lemmas.List.Sums.{sum_by-le}
 use Rattle.cj_ir.specs.Verdicts.{program_verdict}
 use Rattle.cj_ir.specs.WellFormed.{IsWellFormed, Takes}
-use Rattle.cj_ir.specs.declared.language.FunId.{FunId}
 use Rattle.cj_ir.specs.declared.language.Function.{Function}
+use Rattle.cj_ir.specs.declared.language.Program.{Program}
 use Rattle.cj_ir.specs.declared.script.ScriptCall.{ScriptCall}
-use Rattle.cj_ir.proofs.Grants.{Grants}
+use Rattle.cj_ir.specs.declared.script.Setup.{Setup}
 use Rattle.cj_ir.proofs.WellFormedLemmas.{Grants-program}
 use Rattle.cj_script.specs.Fitting.{FitsSetup, FitsCall, FitsScript}
 use Rattle.cj_bench.specs.Generated.{after, lines_of, eighth_of, function_name, function_of, function_drawn, functions_drawn, call_drawn, calls_drawn, generated_program, generated_script}
@@ -57,7 +57,6 @@ call_count x = length-map-range_with_len (λ k. call_drawn (after (2 * k) x)) 0 
 turns_fit : (x : ℕ) → sum_by (λ (call : ScriptCall). call.limit) (calls_drawn 256 x) ≤ 4000000
 unfolding calls_drawn
 turns_fit x =
-    let f : ScriptCall → ℕ = λ call. call.limit in
     let each : All (λ (call : ScriptCall). call.limit ≤ 15000) (calls_drawn 256 x) =
     all_made (λ k. call_drawn (after (2 * k) x)) (λ call. call.limit ≤ 15000) 256 (λ k below. omega (arith, limit_is (after (2 * k) x)))
     in
@@ -74,3 +73,9 @@ script_fits number =
       few_calls = omega (arith, call_count (after 128 number));
       few_turns = turns_fit (after 128 number);
     }
+
+-- the same of what equals them
+pub made_fits : (number x : ℕ) (p : Program) (fs : List Function) (setups : List Setup) (calls : List ScriptCall) → p ≡ record { functions = fs } → fs ≡ functions_drawn 32 number → setups ≡ [] → x ≡ after 128 number → calls ≡ calls_drawn 256 x → FitsScript p (record { setups = setups; calls = calls })
+unfolding generated_program generated_script
+made_fits number x p fs setups calls program functions none state made =
+    rw (program, functions, none, made, state) (script_fits number)

@@ -1,9 +1,10 @@
 -- One more report in the counts and the sum of a summary.
-use Rattle.std.proofs.Common.{◌≡◌, ◌∙◌, sym, ap, refl, ℕ, ◌+◌, ◌<◌, ◌≤◌, ℤ, pos, ◌+ℤ◌, Bool, List, [], ◌∷◌, length, drop, get_or, Option, Some, None, arith, FitsSigned, w64, if◌then◌else◌}
+use Rattle.std.proofs.Common.{◌≡◌, ◌∙◌, sym, ap, refl, ℕ, ◌+◌, ◌<◌, ◌≤◌, ℤ, pos, ◌+ℤ◌, Bool, true, false, List, [], ◌∷◌, length, drop, get_or, Option, Some, None, arith, FitsSigned, w64, if◌then◌else◌}
 use Rattle.std.specs.Prelude.{MatchOption, is_some}
+use mir.Val.{bool_byte}
 use Rattle.std.specs.List.{cons_option}
 use Rattle.std.proofs.Math.ListN.{drop_of_length-le}
-use Rattle.std.proofs.Math.IntN.{+ℤ_idl}
+use Rattle.std.proofs.Math.IntN.{+ℤ_idl, +ℤ_idr, +ℤ_assoc}
 use Rattle.std.proofs.lemmas.List.{at_drop_more}
 use Rattle.std.proofs.lemmas.List.Sums.{sum_by-drop_more}
 use Rattle.std.proofs.lemmas.Int.{int_wrap-add_left, int_wrap_fits}
@@ -24,6 +25,16 @@ none_returned rs i past = ap returned (drop_of_length-le rs past)
 one_of : (o : Option ℤ) (vs : List ℤ) → length (cons_option o vs) ≡ (if is_some o then 1 else 0) + length vs
 one_of None vs = omega arith
 one_of (Some v) vs = omega arith
+
+pub as_one : (found test : Bool) → found ≡ test → bool_byte found ≡ (if test then 1 else 0)
+as_one true true e = refl
+as_one true false e = cc
+as_one false true e = cc
+as_one false false e = refl
+
+pub at_most_one : (n : ℕ) (test : Bool) → n ≡ (if test then 1 else 0) → n ≤ 1
+at_most_one n true e = omega (arith, e)
+at_most_one n false e = omega (arith, e)
 
 pub returns_turn : (rs : List Report) (i : ℕ) (r : Report) (before now all : ℕ) → i < length rs → before + length (returned (drop i rs)) ≡ all → now ≡ before + (if is_some (value_of_end (get_or rs i r).end) then 1 else 0) → now + length (returned (drop (i + 1) rs)) ≡ all
 returns_turn rs i r before now all h left step =
@@ -66,10 +77,9 @@ total-nil = refl
 sum_behind : (o : Option ℤ) (vs : List ℤ) (before now : ℤ) → MatchOption o (now ≡ before) (λ v. now ≡ wrap (before +ℤ v)) → wrap (now +ℤ total vs) ≡ wrap (before +ℤ total (cons_option o vs))
 sum_behind None vs before now step = ap (λ s. wrap (s +ℤ total vs)) step
 sum_behind (Some v) vs before now step =
-    let grouped : (before +ℤ v) +ℤ total vs ≡ before +ℤ (v +ℤ total vs) = omega arith in
     ap (λ s. wrap (s +ℤ total vs)) step
     ∙ int_wrap-add_left w64 (before +ℤ v) (total vs)
-    ∙ ap wrap grouped
+    ∙ ap wrap (+ℤ_assoc before v (total vs))
     ∙ ap (λ s. wrap (before +ℤ s)) (sym (total-cons v vs))
 
 pub sum_turn : (rs : List Report) (i : ℕ) (r : Report) (before now all : ℤ) → i < length rs → wrap (before +ℤ total (returned (drop i rs))) ≡ all → MatchOption (value_of_end (get_or rs i r).end) (now ≡ before) (λ v. now ≡ wrap (before +ℤ v)) → wrap (now +ℤ total (returned (drop (i + 1) rs))) ≡ all
@@ -84,5 +94,4 @@ sum_start vs = ap wrap (+ℤ_idl (total vs))
 pub sum_end : (rs : List Report) (i : ℕ) (now all : ℤ) → FitsSigned w64 now → length rs ≤ i → wrap (now +ℤ total (returned (drop i rs))) ≡ all → now ≡ all
 sum_end rs i now all fits past left =
     let none : total (returned (drop i rs)) ≡ pos 0 = ap total (none_returned rs i past) ∙ total-nil in
-    let plain : now +ℤ pos 0 ≡ now = omega arith in
-    sym (int_wrap_fits w64 now fits) ∙ ap wrap (sym plain) ∙ ap (λ s. wrap (now +ℤ s)) (sym none) ∙ left
+    sym (int_wrap_fits w64 now fits) ∙ ap wrap (sym (+ℤ_idr now)) ∙ ap (λ s. wrap (now +ℤ s)) (sym none) ∙ left

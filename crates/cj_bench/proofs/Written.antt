@@ -1,18 +1,21 @@
 -- Names of a generated program are names, and its constants and arguments are values.
-use Rattle.std.proofs.Common.{◌≡◌, refl, subst, ℕ, ◌+◌, ◌*◌, ◌%◌, ◌<◌, ◌^◌, ◌==◌, ℤ, pos, List, [], ◌∷◌, All, Bool, true, false, if◌then◌else◌, arith, get_or}
+use Rattle.std.proofs.Common.{◌≡◌, ◌∙◌, refl, subst, zero-add, ℕ, ◌+◌, ◌*◌, ◌%◌, ◌<◌, ◌==◌, ℤ, pos, List, [], ◌∷◌, All, Bool, true, false, if◌then◌else◌, arith, get_or}
 use Rattle.std.specs.Fmt.{digits}
-use Rattle.std.specs.List.{range_with_len, list_all}
+use Rattle.std.specs.List.{range_with_len, list_all, AllByRecursion}
 use Rattle.std.proofs.lemmas.List.Elements.{All-nil, All-cons}
-use Rattle.std.proofs.lemmas.List.FromFn.{length-range_with_len, get_or-range_with_len}
+use Rattle.std.proofs.lemmas.List.FromFn.{get_or-range_with_len}
 use Rattle.std.proofs.lemmas.List.Sums.{AllPass-from_list_all}
 use Rattle.cj_ir.specs.Texts.{is_name}
-use Rattle.cj_ir.specs.declared.language.Function.{Function}
 use Rattle.cj_ir.specs.declared.language.Instr.{Instr}
 use Rattle.cj_ir.specs.declared.language.Line.{Line}
-use Rattle.cj_ir.specs.declared.language.Operand.{Operand}
-use Rattle.cj_canonical.specs.Written.{IsName, IsValue, IsOperandWritten, IsInstrWritten, IsFunctionWritten, IsProgramWritten, IsSetupWritten, IsCallWritten, IsScriptWritten}
+use Rattle.cj_canonical.specs.Written.{IsValue, IsOperandWritten, IsInstrWritten, IsFunctionWritten, IsProgramWritten, IsSetupWritten, IsCallWritten, IsScriptWritten}
 use Rattle.cj_bench.specs.Generated.{drawn, after, reg, s, b, lines_of, eighth_of, function_name, register_names, function_of, function_drawn, functions_drawn, call_drawn, calls_drawn, generated_program, generated_script}
 use Rattle.cj_bench.proofs.Fine.{all_made}
+
+-- one fact after the other
+all_told : {X : Type 0} (P : X → Type 0) (xs : List X) → AllByRecursion P xs → All P xs
+all_told P [] h = All-nil P
+all_told P (x ∷ xs) h = All-cons P x xs h.0 (all_told P xs h.1)
 
 -- ---- names
 
@@ -24,8 +27,7 @@ pub is_function_name : (index : ℕ) → index < 32 → is_name (function_name i
 is_function_name index below =
     let named : is_name (function_name (get_or (range_with_len 0 32) index 0)) ≡ true =
     AllPass-from_list_all (λ i. is_name (function_name i)) (range_with_len 0 32) names_pass index 0 below in
-    let e : get_or (range_with_len 0 32) index 0 ≡ index = get_or-range_with_len 0 32 index 0 below in
-    subst (λ i. is_name (function_name i) ≡ true) e named
+    subst (λ i. is_name (function_name i) ≡ true) (get_or-range_with_len 0 32 index 0 below ∙ zero-add index) named
 
 register_names_pass : list_all is_name register_names ≡ true
 register_names_pass = refl
@@ -40,7 +42,7 @@ eighth_written : (index : ℕ) (cell : ℤ) → IsValue cell → IsInstrWritten 
 unfolding eighth_of
 eighth_written index cell value =
     chosen IsInstrWritten (index == 31) _ _ value
-    (All-cons IsOperandWritten (reg s) (reg b ∷ []) tt (All-cons IsOperandWritten (reg b) [] tt (All-nil IsOperandWritten)))
+    (all_told IsOperandWritten (reg s ∷ reg b ∷ []) (tt, (tt, tt)))
 
 abbrev LineWritten : Line → Type 0
 LineWritten line = IsInstrWritten line.instr
@@ -48,16 +50,8 @@ LineWritten line = IsInstrWritten line.instr
 lines_written : (factor divisor bound cell : ℤ) (eighth : Instr) → IsValue factor → IsValue divisor → IsValue bound → IsValue cell → IsInstrWritten eighth → All LineWritten (lines_of factor divisor bound cell eighth)
 unfolding lines_of
 lines_written factor divisor bound cell eighth hf hd hb hc he =
-    All-cons LineWritten _ _ (tt, hf)
-    (All-cons LineWritten _ _ (tt, hd)
-    (All-cons LineWritten _ _ (tt, hb)
-    (All-cons LineWritten _ _ tt
-    (All-cons LineWritten _ _ (tt, tt)
-    (All-cons LineWritten _ _ (tt, tt)
-    (All-cons LineWritten _ _ (hc, tt)
-    (All-cons LineWritten _ _ he
-    (All-cons LineWritten _ _ tt
-    (All-cons LineWritten _ _ tt (All-nil LineWritten))))))))))
+    all_told LineWritten (lines_of factor divisor bound cell eighth)
+    ((tt, hf), ((tt, hd), ((tt, hb), (tt, ((tt, tt), ((tt, tt), ((hc, tt), (he, (tt, (tt, tt))))))))))
 
 -- ---- the program
 
@@ -86,7 +80,7 @@ unfolding call_drawn
 call_written x =
     let first : IsValue (pos (drawn x % 1000)) = omega arith in
     let second : IsValue (pos (drawn (after 1 x) % 5)) = omega arith in
-    All-cons IsValue _ _ first (All-cons IsValue _ _ second (All-nil IsValue))
+    all_told IsValue (pos (drawn x % 1000) ∷ pos (drawn (after 1 x) % 5) ∷ []) (first, (second, tt))
 
 pub script_written : (number : ℕ) → IsScriptWritten (generated_script number)
 unfolding generated_script calls_drawn

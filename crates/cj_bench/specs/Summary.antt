@@ -1,5 +1,5 @@
 -- The summary of reports: five lines, each of a word and a number, and a line feed at its end.
-use Rattle.std.specs.Prelude.{ℕ, ℤ, pos, ◌+ℤ◌, Bool, true, false, List, [], ◌∷◌, ◌++◌, length, Option, Some, None, filter_map, sum_by, codes, decimal}
+use Rattle.std.specs.Prelude.{ℕ, ℤ, pos, ◌+ℤ◌, List, [], ◌∷◌, ◌++◌, length, Option, Some, None, filter_map, sum_by, codes, decimal}
 use Rattle.std.specs.Fmt.{signed_decimal}
 use Rattle.cj_ir.specs.Values.{wrap}
 use Rattle.cj_base.specs.declared.machine.End.{End}

@@ -11,6 +11,7 @@ pub(crate) struct Draws {
 
 impl Draws {
     /// A number below a count: the remainder of what is drawn.
+    #[tactic(auto, unfolding(crate::specs::Generated::drawn))]
     pub(crate) fn below(&mut self, count: u32) -> u32
         requires { 0 < count }
         ensures number { result ≡ drawn self.old.state % count }

@@ -168,12 +168,26 @@ fn lines_of(alloc: Global, constants: Constants, eighth: Instr) -> Result<Lines,
     push_line(&mut code, 2, op(S, Expr::Rem(Operand::Reg(R), divisor), 3))?;
     push_line(&mut code, 3, op(T, Expr::Lt(Operand::Reg(S), bound), 4))?;
     push_line(&mut code, 4, cond(T, 5, 6))?;
-    push_line(&mut code, 5, op(S, Expr::Add(Operand::Reg(S), Operand::Reg(B)), 7))?;
-    push_line(&mut code, 6, op(S, Expr::Sub(Operand::Reg(S), Operand::Reg(B)), 7))?;
+    push_line(
+        &mut code,
+        5,
+        op(S, Expr::Add(Operand::Reg(S), Operand::Reg(B)), 7),
+    )?;
+    push_line(
+        &mut code,
+        6,
+        op(S, Expr::Sub(Operand::Reg(S), Operand::Reg(B)), 7),
+    )?;
     push_line(&mut code, 7, store(cell, S, 8))?;
     push_line(&mut code, 8, eighth)?;
     push_line(&mut code, 9, print(R, 10))?;
-    push_line(&mut code, 10, Instr::Return { value: Operand::Reg(R) })?;
+    push_line(
+        &mut code,
+        10,
+        Instr::Return {
+            value: Operand::Reg(R),
+        },
+    )?;
     Ok(code)
 }
 
