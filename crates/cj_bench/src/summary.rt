@@ -1,6 +1,6 @@
 //! The summary of what a generated script answers.
 
-ghost use Rattle.std.specs.Prelude.{◌≡◌, ◌≤◌, ◌++◌, ◌+ℤ◌, length, is_some, IfOk, OnOk, MatchOption};
+ghost use Rattle.std.specs.Prelude.{◌≡◌, ◌++◌, ◌+ℤ◌, length, is_some, IfOk, OnOk, MatchOption};
 ghost use Rattle.cj_ir.specs.Values.{wrap};
 ghost use Rattle.cj_bench.specs.Summary.{value_of_end, returned, print_count, total, summary_line, summary_text};
 
@@ -10,7 +10,7 @@ use cj_ir::NoMemory;
 use itoa::{Buffer, Integer};
 use std::alloc::Global;
 
-/// The summary of the reports of a number of at most 999,999: five lines, each a word, a blank, a decimal and a line
+/// The summary of the reports of a number: five lines, each a word, a blank, a decimal and a line
 /// feed. They are `bench` with the number, `calls` with the number of reports, `returns` with the number of those that
 /// returned, `prints` with the number of all prints, and `sum` with the sum of all returned values, wrapped modulo
 /// 2^64 into the range of values.
