@@ -22,6 +22,7 @@ returned reports = filter_map (λ report. value_of_end report.end) reports
 unfoldable pub print_count : List Report → ℕ
 print_count reports = sum_by (λ report. length report.printed) reports
 
+-- the sum
 unfoldable pub total : List ℤ → ℤ
 total [] = pos 0
 total (v ∷ vs) = v +ℤ total vs

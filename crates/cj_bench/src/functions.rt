@@ -145,8 +145,8 @@ fn eighth_of(alloc: Global, index: u32, cell: i64) -> Result<Instr, NoMemory>
         });
     }
     let mut args = Operands::new(alloc);
-    args.push(Operand::Reg(S))?;
-    args.push(Operand::Reg(B))?;
+    args.push(reg(S))?;
+    args.push(reg(B))?;
     Ok(Instr::Call {
         dest: R,
         function: FunId(index + 1),
@@ -164,30 +164,16 @@ fn lines_of(alloc: Global, constants: Constants, eighth: Instr) -> Result<Lines,
     let bound = Operand::Const(constants.bound);
     let cell = Operand::Const(constants.cell);
     let mut code = Lines::new(alloc);
-    push_line(&mut code, 1, op(R, Expr::Mul(Operand::Reg(A), factor), 2))?;
-    push_line(&mut code, 2, op(S, Expr::Rem(Operand::Reg(R), divisor), 3))?;
-    push_line(&mut code, 3, op(T, Expr::Lt(Operand::Reg(S), bound), 4))?;
+    push_line(&mut code, 1, op(R, Expr::Mul(reg(A), factor), 2))?;
+    push_line(&mut code, 2, op(S, Expr::Rem(reg(R), divisor), 3))?;
+    push_line(&mut code, 3, op(T, Expr::Lt(reg(S), bound), 4))?;
     push_line(&mut code, 4, cond(T, 5, 6))?;
-    push_line(
-        &mut code,
-        5,
-        op(S, Expr::Add(Operand::Reg(S), Operand::Reg(B)), 7),
-    )?;
-    push_line(
-        &mut code,
-        6,
-        op(S, Expr::Sub(Operand::Reg(S), Operand::Reg(B)), 7),
-    )?;
+    push_line(&mut code, 5, op(S, Expr::Add(reg(S), reg(B)), 7))?;
+    push_line(&mut code, 6, op(S, Expr::Sub(reg(S), reg(B)), 7))?;
     push_line(&mut code, 7, store(cell, S, 8))?;
     push_line(&mut code, 8, eighth)?;
     push_line(&mut code, 9, print(R, 10))?;
-    push_line(
-        &mut code,
-        10,
-        Instr::Return {
-            value: Operand::Reg(R),
-        },
-    )?;
+    push_line(&mut code, 10, Instr::Return { value: reg(R) })?;
     Ok(code)
 }
 
@@ -217,7 +203,7 @@ fn cond(test: Reg, then_to: u32, else_to: u32) -> Instr
     ensures { result ≡ Cond (reg test) (to then_to) (to else_to) }
 {
     Instr::Cond {
-        test: Operand::Reg(test),
+        test: reg(test),
         then_to: to(then_to),
         else_to: to(else_to),
     }
@@ -229,7 +215,7 @@ fn store(address: Operand, value: Reg, next: u32) -> Instr
 {
     Instr::Store {
         address,
-        value: Operand::Reg(value),
+        value: reg(value),
         next: to(next),
     }
 }
@@ -239,9 +225,15 @@ fn print(value: Reg, next: u32) -> Instr
     ensures { result ≡ Print (reg value) (to next) }
 {
     Instr::Print {
-        value: Operand::Reg(value),
+        value: reg(value),
         next: to(next),
     }
+}
+
+fn reg(register: Reg) -> Operand
+    ensures { result ≡ reg register }
+{
+    Operand::Reg(register)
 }
 
 // The label of the line with that number, which count from 1.

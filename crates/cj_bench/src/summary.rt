@@ -55,14 +55,21 @@ fn is_returned(end: End) -> bool
     matches!(end, End::Returned(_))
 }
 
+// Fewer than 2^64 reports have fewer than 2^64 prints each, so the count is below 2^128.
 fn count_prints(reports: &[Report]) -> u128
     ensures { result ≡ print_count reports.now }
 {
     let mut count = 0;
     for report in reports {
-        count += report.printed.items().len() as u128;
+        count += prints_of(report) as u128;
     }
     count
+}
+
+fn prints_of(report: &Report) -> usize
+    ensures { result ≡ length report.now.printed }
+{
+    report.printed.items().len()
 }
 
 fn sum_returned(reports: &[Report]) -> i64

@@ -8,9 +8,9 @@ loop-report-preserved c =
     let rs : List Report = c.args.reports.now in
     let i : ℕ = c.loop-report.report-index in
     let r : Report = c.report-item.result in
-    let step = ap (λ n. c.loop-report.count + n) (ap length c.items.ensures ∙ ap (λ (x : Report). length x.printed) c.report-item.is) in (
-      prints_turn rs i r c.loop-report.count (c.loop-report.count + length c.items.result.now) _ c.loop-report-test.true c.loop-report.invariant.0 step,
-      omega (arith, c.loop-report.invariant.1, c.items.type_inv.0),
+    let step = ap (λ n. c.loop-report.count + n) (c.prints_of.ensures ∙ ap (λ (x : Report). length x.printed) c.report-item.is) in (
+      prints_turn rs i r c.loop-report.count (c.loop-report.count + c.prints_of.result) _ c.loop-report-test.true c.loop-report.invariant.0 step,
+      omega (arith, c.loop-report.invariant.1, c.prints_of.type_inv),
     )
 
 pub returns : goal.returns
