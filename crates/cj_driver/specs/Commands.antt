@@ -1,6 +1,8 @@
 -- The words of the command line.
 use Rattle.std.specs.Prelude.{ℕ, true, false, Bool, ◌&&◌, nat_le, List, [], ◌∷◌, length, Option, Some, None, codes, if◌then◌else◌}
-use Rattle.std.specs.Str.{all_ascii_digits, bytes_eq}
+use Rattle.std.specs.Char.{is_ascii_digit}
+use Rattle.std.specs.List.{list_all}
+use Rattle.std.specs.Str.{bytes_eq}
 use Rattle.cj_tokens.specs.Spellings.{value}
 use Rattle.cj_driver.specs.declared.command.Command.{Command}
 use Rattle.cj_driver.specs.declared.command.Command.TheVariants.{OnText, Bench}
@@ -16,7 +18,7 @@ command_named word =
 
 -- one to six decimal digits
 abbrev pub is_bench_number : List ℕ → Bool
-is_bench_number word = all_ascii_digits word && (nat_le 1 (length word) && nat_le (length word) 6)
+is_bench_number word = list_all is_ascii_digit word && (nat_le 1 (length word) && nat_le (length word) 6)
 
 -- the bench of that number
 unfoldable pub bench_of : List ℕ → Option Command

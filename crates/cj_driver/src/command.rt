@@ -1,6 +1,8 @@
 //! The words of the command line.
 
 ghost use Rattle.std.specs.Prelude.{◌≡◌, map};
+ghost use Rattle.std.specs.Char.{is_ascii_digit};
+ghost use Rattle.std.specs.List.{list_all};
 ghost use Rattle.std.specs.String.{string_bytes};
 ghost use Rattle.cj_driver.specs.Commands.{is_bench_number, bench_of, command_of, command_named, command_with};
 
@@ -95,5 +97,12 @@ fn bench_of(word: &str) -> Option<Command>
 fn is_bench_number(word: &[u8]) -> bool
     ensures { result ≡ is_bench_number word.now }
 {
-    word.iter().all(u8::is_ascii_digit) && 1 <= word.len() && word.len() <= 6
+    let digits = are_digits(word);
+    digits && !word.is_empty() && word.len() <= 6
+}
+
+fn are_digits(bytes: &[u8]) -> bool
+    ensures { result ≡ list_all is_ascii_digit bytes.now }
+{
+    bytes.iter().all(|&byte| byte.is_ascii_digit())
 }
