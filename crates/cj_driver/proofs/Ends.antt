@@ -7,10 +7,10 @@ use Rattle.cj_io.specs.Faults.{Rose}
 use Rattle.cj_io.specs.Reading.{GaveMore}
 use Rattle.cj_calls.specs.declared.report.Report.{Report}
 use Rattle.cj_driver.specs.Outside.{Outside, outside, longest, AreWhole, WasRead, ToldWhole, ToldMore}
-use Rattle.cj_driver.specs.Texts.{TextOf, ReadsAs, WasText, Owes}
-use Rattle.cj_driver.specs.Answers.{HasAnswer, IsStop, TopStands, IsStatus, WasRefused, HasCauses, IsCalm, IsComplete, Answers}
+use Rattle.cj_driver.specs.Texts.{TextOf, ReadsAs, WasText, Owes, OwesSummary}
+use Rattle.cj_driver.specs.Answers.{HasAnswer, IsStop, TopStands, IsStatus, WasRefused, HasCauses, IsCalm, IsComplete, Answers, AnswersBench}
 use Rattle.cj_driver.specs.Steps.{StopStands, Finishes, StopFinishes, Writes}
-use Rattle.cj_driver.specs.declared.command.Command.{Command}
+use Rattle.cj_driver.specs.declared.command.Task.{Task}
 use Rattle.cj_driver.specs.declared.finish.Finish.{Finish}
 use Rattle.cj_driver.specs.declared.reading.Stop.{Stop}
 use Rattle.cj_driver.specs.declared.reading.Stop.TheVariants as stop
@@ -29,10 +29,10 @@ same_bytes given left bytes known whole is =
     subst P is whole.all
 
 -- known bytes have one reading
-one_reading : (c : Command) (given left : Option (List ℕ)) (answer other : Result (TextOf c) Refused) (known : List ℕ) → WasText c given left answer → given ≡ Some known → ReadsAs c known other → other ≡ answer
-one_reading c given left answer other known read is reads =
+one_reading : (t : Task) (given left : Option (List ℕ)) (answer other : Result (TextOf t) Refused) (known : List ℕ) → WasText t given left answer → given ≡ Some known → ReadsAs t known other → other ≡ answer
+one_reading t given left answer other known read is reads =
     let same : known ≡ read.bytes = sym (same_bytes given left read.bytes known read.whole is) in
-    let P : List ℕ → Type 0 = λ bytes. ReadsAs c bytes other in
+    let P : List ℕ → Type 0 = λ bytes. ReadsAs t bytes other in
     read.only other (subst P same reads)
 
 -- what was read whole was not too long
@@ -63,9 +63,9 @@ not_six s (inl e) six = let never : 0 ≡ 6 = sym e ∙ six in absurd (omega ari
 not_six s (inr e) six = let never : 5 ≡ 6 = sym e ∙ six in absurd (omega arith)
 
 -- what is owed was written
-pub written : (c : Command) (text : TextOf c) (reports : List Report) (owed : List ℕ) (had has : Option (List ℕ)) (faults faults_now : ℕ) (f : Finish) → Owes c text reports owed → Writes reports owed had has faults faults_now f → Finishes c text had has faults faults_now f
-written c text reports owed had has faults faults_now f owes w =
-    let owed_now : Owes c text f.reports owed = subst (λ (rs : List Report). Owes c text rs owed) (sym w.reports) owes in
+pub written : (IsOwed : List Report → List ℕ → Type 0) (reports : List Report) (owed : List ℕ) (had has : Option (List ℕ)) (faults faults_now : ℕ) (f : Finish) → IsOwed reports owed → Writes reports owed had has faults faults_now f → Finishes IsOwed had has faults faults_now f
+written IsOwed reports owed had has faults faults_now f owes w =
+    let owed_now : IsOwed f.reports owed = subst (λ (rs : List Report). IsOwed rs owed) (sym w.reports) owes in
     record {
       some = written_some f.status w.some;
       refused = w.refused;
@@ -76,8 +76,8 @@ written c text reports owed had has faults faults_now f owes w =
     }
 
 -- want of memory: nothing was written
-pub wanted : (c : Command) (text : TextOf c) (had : Option (List ℕ)) (faults : ℕ) (f : Finish) → f.status ≡ 6 → f.refused ≡ None → f.reports ≡ [] → Finishes c text had had faults faults f
-wanted c text had faults f status refused reports = record {
+pub wanted : (IsOwed : List Report → List ℕ → Type 0) (had : Option (List ℕ)) (faults : ℕ) (f : Finish) → f.status ≡ 6 → f.refused ≡ None → f.reports ≡ [] → Finishes IsOwed had had faults faults f
+wanted IsOwed had faults f status refused reports = record {
   some = inr (inr status);
   refused = refused;
   done = λ s. let never : 6 ≡ 0 = sym status ∙ s in absurd (omega arith);
@@ -108,36 +108,55 @@ done_or_six s (inl e) no_five = inl e
 done_or_six s (inr (inl e)) no_five = absurd (no_five e)
 done_or_six s (inr (inr e)) no_five = inr e
 
-read_stands : (c : Command) (i : TextOf c) (o : Outside) (f : Finish) → WasText c o.given o.left (Ok i) → Finishes c i o.had o.has o.write_faults o.write_faults_now f → TopStands c o f
-read_stands c i o f read fin = record {
-  done = λ s. let owed = fin.done s in (owed.0, record { text = i; read = read; owes = owed.1 }, owed.2);
-  cut = λ s. let owed = fin.cut s in (owed.0, owed.1, record { text = i; read = read; owes = owed.2 }, owed.3);
+-- what is owed is what is told
+told_stands : (IsOwed IsTold : List Report → List ℕ → Type 0) (o : Outside) (f : Finish) → ((reports : List Report) (owed : List ℕ) → IsOwed reports owed → IsTold reports owed) → Finishes IsOwed o.had o.has o.write_faults o.write_faults_now f → TopStands IsTold o f
+told_stands IsOwed IsTold o f tell fin = record {
+  done = λ s. let owed = fin.done s in (owed.0, tell f.reports owed.0 owed.1, owed.2);
+  cut = λ s. let owed = fin.cut s in (owed.0, owed.1, tell f.reports owed.0 owed.2, owed.3);
   stop = λ a b. let none = fin.none (zero_five_six f.status fin.some a b) in record { nothing = none.1; reports = none.0 };
 }
 
-read_causes : (c : Command) (i : TextOf c) (o : Outside) (f : Finish) → WasText c o.given o.left (Ok i) → Finishes c i o.had o.has o.write_faults o.write_faults_now f → HasCauses c o f
-read_causes c i o f read fin = record {
+read_stands : (t : Task) (i : TextOf t) (o : Outside) (f : Finish) → WasText t o.given o.left (Ok i) → Finishes (Owes t i) o.had o.has o.write_faults o.write_faults_now f → TopStands (HasAnswer t o) o f
+read_stands t i o f read fin =
+    told_stands (Owes t i) (HasAnswer t o) o f (λ reports owed owes. record { text = i; read = read; owes = owes }) fin
+
+read_causes : (t : Task) (i : TextOf t) (o : Outside) (f : Finish) → WasText t o.given o.left (Ok i) → Finishes (Owes t i) o.had o.has o.write_faults o.write_faults_now f → HasCauses t o f
+read_causes t i o f read fin = record {
   some = is_status f.status fin.some;
   refused = λ s. never f.status 3 fin.some s (omega arith) (omega arith) (omega arith);
   refused_alone = λ s. fin.refused;
-  refused_owed = λ bytes r told reads not_four. let same : Err r ≡ Ok i = one_reading c o.given o.left (Ok i) (Err r) bytes read told.given reads in cc;
+  refused_owed = λ bytes r told reads not_four. let same : Err r ≡ Ok i = one_reading t o.given o.left (Ok i) (Err r) bytes read told.given reads in cc;
   read = λ s. never f.status 4 fin.some s (omega arith) (omega arith) (omega arith);
   write = fin.fault;
   long = λ s. never f.status 7 fin.some s (omega arith) (omega arith) (omega arith);
   long_owed = λ told not_four. absurd (not_more o.given o.left read.bytes told.bytes told.rest read.whole told.given told.more);
 }
 
-pub read_answers : (c : Command) (i : TextOf c) (o : Outside) (f : Finish) → WasText c o.given o.left (Ok i) → Finishes c i o.had o.has o.write_faults o.write_faults_now f → Answers c o f
-read_answers c i o f read fin = record {
-  headline = read_stands c i o f read fin;
-  causes = read_causes c i o f read fin;
+pub read_answers : (t : Task) (i : TextOf t) (o : Outside) (f : Finish) → WasText t o.given o.left (Ok i) → Finishes (Owes t i) o.had o.has o.write_faults o.write_faults_now f → Answers t o f
+read_answers t i o f read fin = record {
+  headline = read_stands t i o f read fin;
+  causes = read_causes t i o f read fin;
   complete = λ calm. done_or_six f.status fin.some (λ s. calm.no_write_fault (fin.fault s));
 }
 
+-- ---- the bench, which reads nothing
+
+pub benched : (number : ℕ) (given had has : Option (List ℕ)) (reads writes writes_now : ℕ) (f : Finish) → Finishes (OwesSummary number) had has writes writes_now f → AnswersBench number (outside given given had has reads reads writes writes_now) f
+benched number given had has reads writes writes_now f fin =
+    let o : Outside = outside given given had has reads reads writes writes_now in
+    record {
+      headline = told_stands (OwesSummary number) (OwesSummary number) o f (λ reports owed owes. owes) fin;
+      unread = record { left = refl; faults = refl };
+      some = fin.some;
+      refused = fin.refused;
+      write = fin.fault;
+      complete = λ calm. done_or_six f.status fin.some (λ s. calm (fin.fault s));
+    }
+
 -- ---- no text was read
 
-stop_stands : (c : Command) (o : Outside) (f : Finish) → Appends o.had o.has [] → f.reports ≡ [] → f.status ≢ 0 → f.status ≢ 5 → TopStands c o f
-stop_stands c o f nothing reports no_zero no_five = record {
+stop_stands : (t : Task) (o : Outside) (f : Finish) → Appends o.had o.has [] → f.reports ≡ [] → f.status ≢ 0 → f.status ≢ 5 → TopStands (HasAnswer t o) o f
+stop_stands t o f nothing reports no_zero no_five = record {
   done = λ s. absurd (no_zero s);
   cut = λ s. absurd (no_five s);
   stop = λ a b. record { nothing = nothing; reports = reports };
@@ -147,9 +166,9 @@ stop_stands c o f nothing reports no_zero no_five = record {
 apart : {A : Type 0} (s m n : ℕ) → s ≡ m → s ≡ n → m ≢ n → A
 apart s m n a b differ = absurd (differ (sym a ∙ b))
 
-stop_answers : (c : Command) (o : Outside) (s : Stop) (f : Finish) → Appends o.had o.has [] → StopStands c o.given o.left o.read_faults o.read_faults_now s → StopFinishes s f → Answers c o f
-stop_answers c o (stop.Refused r) f nothing stands fin = record {
-  headline = stop_stands c o f nothing fin.reports (λ e. apart f.status 3 0 fin.status e (omega arith)) (λ e. apart f.status 3 5 fin.status e (omega arith));
+stop_answers : (t : Task) (o : Outside) (s : Stop) (f : Finish) → Appends o.had o.has [] → StopStands t o.given o.left o.read_faults o.read_faults_now s → StopFinishes s f → Answers t o f
+stop_answers t o (stop.Refused r) f nothing stands fin = record {
+  headline = stop_stands t o f nothing fin.reports (λ e. apart f.status 3 0 fin.status e (omega arith)) (λ e. apart f.status 3 5 fin.status e (omega arith));
   causes = record {
     some = inr (inl fin.status);
     refused = λ e. record { refused = r; told = fin.refused; read = stands };
@@ -160,10 +179,10 @@ stop_answers c o (stop.Refused r) f nothing stands fin = record {
     long = λ e. apart f.status 3 7 fin.status e (omega arith);
     long_owed = λ told not_four. absurd (not_more o.given o.left stands.bytes told.bytes told.rest stands.whole told.given told.more);
   };
-  complete = λ calm. let same : Ok calm.text ≡ Err r = one_reading c o.given o.left (Err r) (Ok calm.text) calm.bytes stands calm.given calm.reads in cc;
+  complete = λ calm. let same : Ok calm.text ≡ Err r = one_reading t o.given o.left (Err r) (Ok calm.text) calm.bytes stands calm.given calm.reads in cc;
 }
-stop_answers c o stop.ReadFault f nothing stands fin = record {
-  headline = stop_stands c o f nothing fin.reports (λ e. apart f.status 4 0 fin.status e (omega arith)) (λ e. apart f.status 4 5 fin.status e (omega arith));
+stop_answers t o stop.ReadFault f nothing stands fin = record {
+  headline = stop_stands t o f nothing fin.reports (λ e. apart f.status 4 0 fin.status e (omega arith)) (λ e. apart f.status 4 5 fin.status e (omega arith));
   causes = record {
     some = inr (inr (inl fin.status));
     refused = λ e. apart f.status 4 3 fin.status e (omega arith);
@@ -176,8 +195,8 @@ stop_answers c o stop.ReadFault f nothing stands fin = record {
   };
   complete = λ calm. absurd (calm.no_read_fault stands);
 }
-stop_answers c o stop.TooLong f nothing stands fin = record {
-  headline = stop_stands c o f nothing fin.reports (λ e. apart f.status 7 0 fin.status e (omega arith)) (λ e. apart f.status 7 5 fin.status e (omega arith));
+stop_answers t o stop.TooLong f nothing stands fin = record {
+  headline = stop_stands t o f nothing fin.reports (λ e. apart f.status 7 0 fin.status e (omega arith)) (λ e. apart f.status 7 5 fin.status e (omega arith));
   causes = record {
     some = inr (inr (inr (inr (inr fin.status))));
     refused = λ e. apart f.status 7 3 fin.status e (omega arith);
@@ -193,8 +212,8 @@ stop_answers c o stop.TooLong f nothing stands fin = record {
   where
     too_short : (bytes : List ℕ) → length bytes ≤ longest → longest < length bytes → ⊥
     too_short bytes short more = omega arith
-stop_answers c o stop.NoMemory f nothing stands fin = record {
-  headline = stop_stands c o f nothing fin.reports (λ e. apart f.status 6 0 fin.status e (omega arith)) (λ e. apart f.status 6 5 fin.status e (omega arith));
+stop_answers t o stop.NoMemory f nothing stands fin = record {
+  headline = stop_stands t o f nothing fin.reports (λ e. apart f.status 6 0 fin.status e (omega arith)) (λ e. apart f.status 6 5 fin.status e (omega arith));
   causes = record {
     some = inr (inr (inr (inr (inl fin.status))));
     refused = λ e. apart f.status 6 3 fin.status e (omega arith);
@@ -209,6 +228,6 @@ stop_answers c o stop.NoMemory f nothing stands fin = record {
 }
 
 -- a call that stopped before it touched the sink
-pub stopped : (c : Command) (given left had : Option (List ℕ)) (faults faults_now writes : ℕ) (s : Stop) (f : Finish) → StopStands c given left faults faults_now s → StopFinishes s f → Answers c (outside given left had had faults faults_now writes writes) f
-stopped c given left had faults faults_now writes s f stands fin =
-    stop_answers c (outside given left had had faults faults_now writes writes) s f (took_nothing had) stands fin
+pub stopped : (t : Task) (given left had : Option (List ℕ)) (faults faults_now writes : ℕ) (s : Stop) (f : Finish) → StopStands t given left faults faults_now s → StopFinishes s f → Answers t (outside given left had had faults faults_now writes writes) f
+stopped t given left had faults faults_now writes s f stands fin =
+    stop_answers t (outside given left had had faults faults_now writes writes) s f (took_nothing had) stands fin

@@ -75,3 +75,8 @@ ReadRose o = Rose o.read_faults o.read_faults_now
 
 abbrev pub WriteRose : Outside → Type 0
 WriteRose o = Rose o.write_faults o.write_faults_now
+
+-- nothing was asked of the source
+pub record IsUnread (o : Outside) : Type 0 where
+  pub left : o.left ≡ o.given
+  pub faults : o.read_faults_now ≡ o.read_faults

@@ -6,25 +6,25 @@ use Rattle.cj_io.specs.Faults.{Rose}
 use Rattle.cj_io.specs.Reading.{GaveMore}
 use Rattle.cj_calls.specs.declared.report.Report.{Report}
 use Rattle.cj_driver.specs.Outside.{longest}
-use Rattle.cj_driver.specs.Texts.{TextOf, WasText, Owes}
-use Rattle.cj_driver.specs.declared.command.Command.{Command}
+use Rattle.cj_driver.specs.Texts.{WasText}
+use Rattle.cj_driver.specs.declared.command.Task.{Task}
 use Rattle.cj_driver.specs.declared.finish.Finish.{Finish}
 use Rattle.cj_driver.specs.declared.reading.Stop.{Stop}
 use Rattle.cj_driver.specs.declared.reading.Stop.TheVariants as stop
 
 -- why no text was read
-abbrev pub StopStands : (c : Command) (given left : Option (List ℕ)) (faults faults_now : ℕ) → Stop → Type 0
-StopStands c given left faults faults_now (stop.Refused r) = WasText c given left (Err r)
-StopStands c given left faults faults_now stop.ReadFault = Rose faults faults_now
-StopStands c given left faults faults_now stop.TooLong = GaveMore given left longest
-StopStands c given left faults faults_now stop.NoMemory = ⊤
+abbrev pub StopStands : (t : Task) (given left : Option (List ℕ)) (faults faults_now : ℕ) → Stop → Type 0
+StopStands t given left faults faults_now (stop.Refused r) = WasText t given left (Err r)
+StopStands t given left faults faults_now stop.ReadFault = Rose faults faults_now
+StopStands t given left faults faults_now stop.TooLong = GaveMore given left longest
+StopStands t given left faults faults_now stop.NoMemory = ⊤
 
--- what came of a text
-pub record Finishes (c : Command) (text : TextOf c) (had has : Option (List ℕ)) (faults faults_now : ℕ) (f : Finish) : Type 0 where
+-- what came of reports and their bytes
+pub record Finishes (IsOwed : List Report → List ℕ → Type 0) (had has : Option (List ℕ)) (faults faults_now : ℕ) (f : Finish) : Type 0 where
   pub some : (f.status ≡ 0) ⊎ (f.status ≡ 5) ⊎ (f.status ≡ 6)
   pub refused : f.refused ≡ None
-  pub done : f.status ≡ 0 → (owed : List ℕ) × Owes c text f.reports owed × Appends had has owed
-  pub cut : f.status ≡ 5 → (owed : List ℕ) × (part : ℕ) × Owes c text f.reports owed × Appends had has (take part owed)
+  pub done : f.status ≡ 0 → (owed : List ℕ) × IsOwed f.reports owed × Appends had has owed
+  pub cut : f.status ≡ 5 → (owed : List ℕ) × (part : ℕ) × IsOwed f.reports owed × Appends had has (take part owed)
   pub fault : f.status ≡ 5 → Rose faults faults_now
   pub none : f.status ≡ 6 → (f.reports ≡ []) × Appends had has []
 

@@ -2,7 +2,7 @@
 
 ghost use Rattle.std.specs.Prelude.{◌≡◌, ◌≤◌, length, IfOk};
 ghost use Rattle.cj_ir.specs.WellFormed.{Takes};
-ghost use Rattle.cj_driver.specs.Calls.{IsReportOf, AreReportsOf};
+ghost use Rattle.cj_driver.specs.Calls.{IsBaseReportOf, AreReportsOf};
 ghost use Rattle.cj_script.specs.Fitting.{FitsScript};
 
 use crate::bodies::BaseBodies;
@@ -29,7 +29,7 @@ pub fn run_calls(alloc: Global, input: &Input) -> Result<Reports, NoMemory>
 fn run_call(alloc: Global, checked: &Checked, call: &ScriptCall) -> Result<Report, NoMemory>
     requires takes { Takes checked.now.functions call.now.function (length call.now.args) }
     requires limit { (1 ≤ call.now.limit) × (call.now.limit ≤ 1000000) }
-    ensures { IfOk result (IsReportOf checked.now call.now) }
+    ensures { IfOk result (IsBaseReportOf checked.now call.now) }
 {
     let mut watch = BaseBodies::of(alloc, checked);
     let report = run(alloc, checked, call, &mut watch)?;

@@ -3,10 +3,11 @@
 ghost use Rattle.std.specs.Prelude.{IfOk};
 ghost use Rattle.cj_script.specs.Fitting.{FitsScript};
 ghost use Rattle.cj_events.specs.Fitting.{FitsEvents};
-ghost use Rattle.cj_driver.specs.Texts.{OwesOnInput, OwesPlay};
+ghost use Rattle.cj_driver.specs.Texts.{OwesOnInput, OwesPlay, OwesSummary};
 
 use crate::calls::run_calls;
 use crate::command::Job;
+use cj_bench::{generated, summary_of};
 use cj_calls::{Reports, text_of};
 use cj_events::Events;
 use cj_ir::{Checked, Input, NoMemory};
@@ -58,4 +59,14 @@ pub fn perform_play(
         reports: played.reports,
         text,
     })
+}
+
+/// The reports of the calls of the generated input, and their summary.
+pub fn perform_bench(alloc: Global, number: u32) -> Result<Answer, NoMemory>
+    ensures { IfOk result (λ answer. OwesSummary number answer.reports answer.text.items) }
+{
+    let input = generated(alloc, number)?;
+    let reports = run_calls(alloc, &input)?;
+    let text = summary_of(alloc, number, &reports)?;
+    Ok(Answer { reports, text })
 }

@@ -10,11 +10,15 @@ pub mod lines;
 pub mod reading;
 pub mod top;
 
-pub use command::{Command, Job};
+pub use command::{Command, Job, Task};
 pub use finish::Finish;
 pub use lines::fault_line;
 pub use top::top_alone;
 
+#[cfg(test)]
+mod bench;
+#[cfg(test)]
+mod language;
 #[cfg(test)]
 mod limits;
 #[cfg(test)]

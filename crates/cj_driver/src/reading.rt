@@ -6,8 +6,8 @@ ghost use Rattle.cj_events.specs.Fitting.{FitsEvents};
 ghost use Rattle.cj_driver.specs.Outside.{AreWhole};
 ghost use Rattle.cj_driver.specs.Texts.{WasText};
 ghost use Rattle.cj_driver.specs.Steps.{StopStands};
-ghost use Rattle.cj_driver.specs.declared.command.Command.{Command};
-ghost use Rattle.cj_driver.specs.declared.command.Command.TheVariants.{OnInput, OnReplay};
+ghost use Rattle.cj_driver.specs.declared.command.Task.{Task};
+ghost use Rattle.cj_driver.specs.declared.command.Task.TheVariants.{OnInput, OnReplay};
 ghost use Rattle.cj_driver.specs.declared.command.Job.{Job};
 
 use cj_events::{Events, parse_replay};
@@ -32,7 +32,7 @@ pub enum Stop {
 /// All bytes of the source, up to its end.
 fn read_bytes<S: Source>(alloc: Global, source: &mut S) -> Result<Vec<u8>, Stop>
     ensures read { IfOk result (λ bytes. AreWhole (S.left source.old) (S.left source.new) bytes.items) }
-    ensures stop { IfErr result (λ stop. (c : Command) → StopStands c (S.left source.old) (S.left source.new) (S.faults source.old) (S.faults source.new) stop) }
+    ensures stop { IfErr result (λ stop. (t : Task) → StopStands t (S.left source.old) (S.left source.new) (S.faults source.old) (S.faults source.new) stop) }
 {
     match read_all(alloc, source, LONGEST) {
         Ok(bytes) => Ok(bytes),

@@ -10,9 +10,7 @@ returns c =
     let plain : IsPlainTrail looks =
     subst IsPlainTrail (e.looked ∙ ap (λ before. before ++ looks) c.of-watch.ensures.looks) e.ready in
     record {
-      headline = e.headline.0;
-      whole = e.headline.1;
-      run = e.report;
+      report = record { run = e.report; headline = e.headline.0; whole = e.headline.1 };
       looks = plain;
       plain = c.plain_looks_give_plain_reports.ensures c.args.checked.now no_codes looks (begun c.args.call.now) c.in_ok-report.report plain e.report;
     }

@@ -1,4 +1,4 @@
-use Rattle.cj_driver.specs.declared.command.Command.TheVariants.{OnReplay}
+use Rattle.cj_driver.specs.declared.command.Task.TheVariants.{OnReplay}
 use Rattle.cj_driver.proofs.reading.read_replay.Goals as goal
 
 pub returns-in-Err-clause-stop : goal.returns-in-Err-clause-stop

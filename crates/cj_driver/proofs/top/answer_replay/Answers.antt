@@ -1,5 +1,5 @@
 use Rattle.cj_driver.specs.Outside.{outside}
-use Rattle.cj_driver.specs.declared.command.Command.TheVariants.{OnReplay}
+use Rattle.cj_driver.specs.declared.command.Task.TheVariants.{OnReplay}
 use Rattle.cj_driver.proofs.Ends.{read_answers, stopped}
 use Rattle.cj_driver.proofs.top.answer_replay.Goals as goal
 

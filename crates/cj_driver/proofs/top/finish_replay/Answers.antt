@@ -1,14 +1,15 @@
-use Rattle.cj_driver.specs.declared.command.Command.TheVariants.{OnReplay}
+use Rattle.cj_driver.specs.declared.command.Task.TheVariants.{OnReplay}
+use Rattle.cj_driver.specs.Texts.{Owes}
 use Rattle.cj_driver.proofs.Ends.{written, wanted}
 use Rattle.cj_driver.proofs.top.finish_replay.Goals as goal
 
 pub returns-in-Ok : goal.returns-in-Ok
 returns-in-Ok g c =
-    written (OnReplay c.args.stats) (c.args.checked.now, c.args.events.now) c.in-Ok.answer.reports c.in-Ok.answer.text.items
+    written (Owes (OnReplay c.args.stats) (c.args.checked.now, c.args.events.now)) c.in-Ok.answer.reports c.in-Ok.answer.text.items
     (g.K.Sink.written c.args.sink.now) (g.K.Sink.written c.write_answer.new.sink) (g.K.Sink.faults c.args.sink.now) (g.K.Sink.faults c.write_answer.new.sink)
     c.write_answer.result c.in-Ok.ensures c.write_answer.ensures
 
 pub returns-in-Err : goal.returns-in-Err
 returns-in-Err g c =
-    wanted (OnReplay c.args.stats) (c.args.checked.now, c.args.events.now) (g.K.Sink.written c.args.sink.now) (g.K.Sink.faults c.args.sink.now)
+    wanted (Owes (OnReplay c.args.stats) (c.args.checked.now, c.args.events.now)) (g.K.Sink.written c.args.sink.now) (g.K.Sink.faults c.args.sink.now)
     c.stopped.result c.stopped.ensures.status c.stopped.ensures.refused c.stopped.ensures.reports

@@ -1,0 +1,14 @@
+//! Generated programs with their scripts, and the summary of what these answer.
+#![tactic(auto)]
+
+mod draws;
+mod functions;
+mod generator;
+pub mod laws;
+mod scripts;
+mod summary;
+#[cfg(test)]
+mod tests;
+
+pub use generator::{generate, generated};
+pub use summary::summary_of;
