@@ -7,6 +7,7 @@
 
 mod functions;
 mod instructions;
+mod offences;
 mod operands;
 mod scripts;
 mod sentences;
@@ -16,6 +17,7 @@ mod tests;
 ghost use Rattle.cj_grammar.specs.Plain.{InputIsPlain};
 
 pub use functions::pass_funs;
+pub use offences::refused;
 pub use scripts::pass_begun;
 pub use sentences::{fits_input, refusal, shape};
 

@@ -9,8 +9,9 @@ ghost use Rattle.cj_reader.specs.Reading.{callee_at, one_more_at, next_operand_a
 
 use crate::memory::remembered;
 use crate::operands::read_operand;
-use crate::refusals::{refusal, refuse_if};
+use crate::refusals::refuse_if;
 use crate::scope::Scope;
+use cj_grammar::refused;
 use cj_ir::{FunId, Operands};
 use cj_tokens::{Kind, Lexeme, ParseError, Tokens};
 use std::alloc::Global;
@@ -22,9 +23,9 @@ pub fn callee(scope: Scope<'_>, token: Lexeme<'_>, count: u32) -> Result<FunId, 
 {
     refuse_if(token.text.len() > 32, token, Kind::TooMany)?;
     match scope.functions.callee(token.text) {
-        None => Err(refusal(token, Kind::NoFunction)),
+        None => Err(refused(token, Kind::NoFunction)),
         Some(callee) if callee.params == count => Ok(callee.function),
-        Some(_) => Err(refusal(token, Kind::Arguments)),
+        Some(_) => Err(refused(token, Kind::Arguments)),
     }
 }
 

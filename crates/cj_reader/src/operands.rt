@@ -11,8 +11,9 @@ ghost use Rattle.cj_reader.specs.Known.{scope_in};
 ghost use Rattle.cj_reader.specs.Reading.{register_at, label_at, target_at, operand_at, expr_at, rest_at, operator_of};
 
 use crate::operators::{applied, operator_at};
-use crate::refusals::{refusal, refuse_if};
+use crate::refusals::refuse_if;
 use crate::scope::Scope;
+use cj_grammar::refused;
 use cj_ir::{Expr, Label, Name, Operand, Reg};
 use cj_tokens::{Kind, Lexeme, ParseError, Terminal, Tokens};
 
@@ -32,7 +33,7 @@ pub fn register(scope: Scope<'_>, token: Lexeme<'_>) -> Result<Reg, ParseError>
     refuse_if(token.text.len() > 32, token, Kind::TooMany)?;
     match name_place(scope.registers, token.text) {
         Some(place) => Ok(Reg(place as u32)),
-        None => Err(refusal(token, Kind::NoRegister)),
+        None => Err(refused(token, Kind::NoRegister)),
     }
 }
 
@@ -51,7 +52,7 @@ pub fn label(scope: Scope<'_>, token: Lexeme<'_>) -> Result<Label, ParseError>
     refuse_if(!is_line_number(token.number), token, Kind::Range)?;
     match scope.labels.place(token.number) {
         Some(place) => Ok(Label(place)),
-        None => Err(refusal(token, Kind::NoLabel)),
+        None => Err(refused(token, Kind::NoLabel)),
     }
 }
 

@@ -11,7 +11,7 @@ ghost use Rattle.cj_reader.specs.Operands.{is_long};
 ghost use Rattle.cj_reader.specs.Reading.{word_at, text_at};
 
 use crate::memory::remembered;
-use crate::refusals::refusal;
+use cj_grammar::refused;
 use cj_ir::{Name, Text};
 use cj_tokens::{Kind, Lexeme, ParseError, Terminal};
 use std::alloc::Global;
@@ -32,7 +32,7 @@ pub fn word(alloc: Global, token: Lexeme<'_>) -> Result<Name, ParseError>
     ensures { Found result (word_at (seen token.entry)) }
 {
     if token.terminal != Terminal::Name {
-        return Err(refusal(token, Kind::Syntax));
+        return Err(refused(token, Kind::Syntax));
     }
     match remembered(Name::of(alloc, token.text))? {
         Some(name) => Ok(name),
@@ -48,7 +48,7 @@ pub fn text(alloc: Global, token: Lexeme<'_>) -> Result<Text, ParseError>
     ensures { Found result (text_at (seen token.entry)) }
 {
     if token.terminal != Terminal::Text {
-        return Err(refusal(token, Kind::Syntax));
+        return Err(refused(token, Kind::Syntax));
     }
     match remembered(Text::of(alloc, token.text))? {
         Some(text) => Ok(text),

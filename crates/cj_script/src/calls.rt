@@ -6,7 +6,7 @@ ghost use Rattle.cj_grammar.specs.Reading.{Gives};
 ghost use Rattle.cj_script.specs.Reading.{limits, call_at, calls_at};
 
 use crate::begun::read_run;
-use crate::judge::refused;
+use cj_grammar::refused;
 use cj_ir::{Function, ScriptCall, ScriptCalls};
 use cj_tokens::{Kind, ParseError, Terminal, Tokens};
 use std::alloc::Global;

@@ -2,21 +2,13 @@
 
 ghost use Rattle.std.specs.Prelude.{◌≡◌, ◌+◌, ◌<◌, ◌≤◌, pos, length, position, slice_get, unsigned_abs, Some, None, IfSome, IfOk};
 ghost use Rattle.cj_tokens.specs.Seen.{seen};
-ghost use Rattle.cj_grammar.specs.Reading.{Found, offence};
+ghost use Rattle.cj_grammar.specs.Reading.{Found};
 ghost use Rattle.cj_script.specs.Meaning.{is_named, function_named, id_named, out_of_range, limit_offences, function_offences, callee_offences};
 ghost use Rattle.cj_script.specs.Reading.{judged};
 
+use cj_grammar::refused;
 use cj_ir::{FunId, Function};
-use cj_tokens::{Kind, Lexeme, ParseError, Refused};
-
-pub fn refused(token: Lexeme<'_>, kind: Kind) -> ParseError
-    ensures { result ≡ ParseError.Refused (offence (seen token.entry) kind) }
-{
-    ParseError::Refused(Refused {
-        line: token.line,
-        kind,
-    })
-}
+use cj_tokens::{Kind, Lexeme, ParseError};
 
 /// The value of a number between those two.
 pub fn number_within(token: Lexeme<'_>, least: u32, most: u32) -> Result<u32, ParseError>

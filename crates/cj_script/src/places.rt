@@ -6,7 +6,7 @@ ghost use Rattle.cj_grammar.specs.Reading.{Found};
 ghost use Rattle.cj_script.specs.Meaning.{is_numbered, is_cond, parameter_named, parameter_offences, parameter_of, label_offences, label_of};
 ghost use Rattle.cj_script.specs.Reading.{judged};
 
-use crate::judge::refused;
+use cj_grammar::refused;
 use cj_ir::{Function, Instr, Label, Line};
 use cj_tokens::{Kind, Lexeme, ParseError};
 

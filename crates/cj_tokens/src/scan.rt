@@ -11,7 +11,8 @@ ghost use Rattle.cj_tokens.specs.Seen.{seen, placed};
 ghost use Rattle.cj_tokens.specs.Words.{is_well};
 
 use crate::lexeme::Scanned;
-use crate::spelling::{begins_number, is_letter, is_letter_or_digit, is_text_byte, lexeme};
+use crate::spelling::{begins_number, lexeme};
+use cj_ir::texts::{is_letter, is_letter_or_digit, is_text_byte};
 
 /// The first token from a place on, which stands in a line.
 pub(crate) fn scan<'a>(bytes: &'a [u8], from: usize, line: u32) -> Scanned<'a>

@@ -1,12 +1,12 @@
 //! What a token is, told by its bytes.
 
 ghost use Rattle.std.specs.Prelude.{◌≡◌, min, cond, Some, None, map, nat_le, neg_ℤ, pos};
-ghost use Rattle.cj_ir.specs.Texts.{is_letter, is_letter_or_digit, is_text_byte};
 ghost use Rattle.cj_tokens.specs.Spellings.{begins_number, word_terminal, mark_terminal, terminal_of, lexeme_of, text_of, number_value, fits_i64, value, worth, lookup, keyword_table, mark_table};
 ghost use Rattle.cj_tokens.specs.Seen.{seen};
 
 use crate::lexeme::Lexeme;
 use crate::terminal::Terminal;
+use cj_ir::texts::is_letter;
 
 /// The token of those bytes, which are one token or a byte that begins none; no bytes are the end.
 #[tactic(auto, unfolding(crate::specs::Spellings::lexeme_of))]
@@ -19,24 +19,6 @@ pub(crate) fn lexeme<'a>(spelling: &'a [u8], line: u32) -> Lexeme<'a>
         text: text(spelling),
         number: worth(spelling),
     }
-}
-
-pub(crate) fn is_letter(byte: u8) -> bool
-    ensures { result ≡ is_letter byte }
-{
-    byte.is_ascii_alphabetic() || byte == b'_'
-}
-
-pub(crate) fn is_letter_or_digit(byte: u8) -> bool
-    ensures { result ≡ is_letter_or_digit byte }
-{
-    is_letter(byte) || byte.is_ascii_digit()
-}
-
-pub(crate) fn is_text_byte(byte: u8) -> bool
-    ensures { result ≡ is_text_byte byte }
-{
-    32 <= byte && byte <= 126 && byte != b'"'
 }
 
 pub(crate) fn begins_number(first: u8, rest: &[u8]) -> bool
