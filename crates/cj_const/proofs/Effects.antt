@@ -19,6 +19,7 @@ use Rattle.cj_draft.specs.declared.instructions.Pair.{Pair}
 use Rattle.cj_draft.specs.declared.instructions.VInstr.{VInstr}
 use Rattle.cj_draft.specs.declared.instructions.VInstr.TheVariants.{Nop, Op, Move, Cond, Call, Return, Print, Load, Store, Fail, Assume, Anchor}
 use Rattle.cj_draft.specs.Effects.{Plain, Guarded, guard_holds, guards_hold, moved, version_effect}
+use Rattle.cj_draft.proofs.OperandLemmas.{operands_value}
 use Rattle.cj_const.specs.declared.knowledge.Outcome.{Outcome}
 use Rattle.cj_const.specs.declared.knowledge.Outcome.TheVariants.{Unknown, Value, ZeroDivisor}
 use Rattle.cj_const.specs.Knowledge.{Knowledge, known_value, constant_or, folded_operand, folded_operands, is_constant, are_constants, outcome_of, evaluated}
@@ -51,17 +52,7 @@ args-effect k regs agrees (a ∷ args) = ap₂ (λ (v : ℤ) (vs : List ℤ). v 
 -- ---- expressions
 
 pub operands-effect : (k : Knowledge) (regs : List ℤ) → Agrees k regs → (e : Expr) → expr_value regs (folded_operands k e) ≡ expr_value regs e
-unfolding folded_operands
-operands-effect k regs agrees (expr.Copy a) = ap Some (operand-effect k regs agrees a)
-operands-effect k regs agrees (expr.Neg a) = ap (λ v. Some (wrap (neg_ℤ v))) (operand-effect k regs agrees a)
-operands-effect k regs agrees (expr.Eqz a) = ap (λ v. Some (as_number (int_eq v (pos 0)))) (operand-effect k regs agrees a)
-operands-effect k regs agrees (expr.Add a b) = ap₂ (λ v w. Some (wrap (v +ℤ w))) (operand-effect k regs agrees a) (operand-effect k regs agrees b)
-operands-effect k regs agrees (expr.Sub a b) = ap₂ (λ v w. Some (wrap (v -ℤ w))) (operand-effect k regs agrees a) (operand-effect k regs agrees b)
-operands-effect k regs agrees (expr.Mul a b) = ap₂ (λ v w. Some (wrap (v *ℤ w))) (operand-effect k regs agrees a) (operand-effect k regs agrees b)
-operands-effect k regs agrees (expr.Div a b) = ap₂ (divided int_div) (operand-effect k regs agrees a) (operand-effect k regs agrees b)
-operands-effect k regs agrees (expr.Rem a b) = ap₂ (divided int_rem) (operand-effect k regs agrees a) (operand-effect k regs agrees b)
-operands-effect k regs agrees (expr.Eq a b) = ap₂ (λ v w. Some (as_number (int_eq v w))) (operand-effect k regs agrees a) (operand-effect k regs agrees b)
-operands-effect k regs agrees (expr.Lt a b) = ap₂ (λ v w. Some (as_number (int_lt v w))) (operand-effect k regs agrees a) (operand-effect k regs agrees b)
+operands-effect k regs agrees e = operands_value (folded_operand k) regs regs (operand-effect k regs agrees) e
 
 constant-value : (regs : List ℤ) (o : Operand) → is_constant o ≡ true → operand_value [] o ≡ operand_value regs o
 unfolding is_constant

@@ -15,7 +15,6 @@ use Rattle.cj_ir.specs.declared.language.Guard.{Guard}
 use Rattle.cj_ir.specs.declared.language.Guard.TheVariants.{Never}
 use Rattle.cj_ir.specs.declared.language.Operand.{Operand}
 use Rattle.cj_ir.specs.declared.language.Expr.{Expr}
-use Rattle.cj_ir.specs.declared.language.Expr.TheVariants as expr
 use Rattle.cj_base.specs.Machine.{branch}
 use Rattle.cj_draft.specs.declared.instructions.Pair.{Pair}
 use Rattle.cj_draft.specs.declared.instructions.VInstr.{VInstr}
@@ -23,6 +22,7 @@ use Rattle.cj_draft.specs.declared.instructions.VInstr.TheVariants.{Nop, Op, Mov
 use Rattle.cj_draft.specs.declared.facts.Facts.{Facts}
 use Rattle.cj_draft.specs.declared.facts.Facts.TheVariants.{Unreached, Known}
 use Rattle.cj_draft.specs.WellNamed.{IsGuardWithin, ArePairsFine, IsVInstrFine, HasFineFacts}
+use Rattle.cj_draft.proofs.OperandLemmas.{operands_within}
 use Rattle.cj_const.specs.declared.knowledge.Outcome.{Outcome}
 use Rattle.cj_const.specs.declared.knowledge.Outcome.TheVariants.{Unknown, Value, ZeroDivisor}
 use Rattle.cj_const.specs.Knowledge.{Knowledge, told_by, known_value, constant_or, folded_operand, folded_operands, evaluated}
@@ -56,19 +56,6 @@ operand-within : (k : Knowledge) (n : ℕ) (o : Operand) → IsOperandWithin n o
 unfolding folded_operand
 operand-within k n o within = constant-within n o (known_value k o) within
 
-operands-within : (k : Knowledge) (n : ℕ) (e : Expr) → IsExprWithin n e → IsExprWithin n (folded_operands k e)
-unfolding folded_operands
-operands-within k n (expr.Copy a) h = operand-within k n a h
-operands-within k n (expr.Neg a) h = operand-within k n a h
-operands-within k n (expr.Eqz a) h = operand-within k n a h
-operands-within k n (expr.Add a b) h = (operand-within k n a h.0, operand-within k n b h.1)
-operands-within k n (expr.Sub a b) h = (operand-within k n a h.0, operand-within k n b h.1)
-operands-within k n (expr.Mul a b) h = (operand-within k n a h.0, operand-within k n b h.1)
-operands-within k n (expr.Div a b) h = (operand-within k n a h.0, operand-within k n b h.1)
-operands-within k n (expr.Rem a b) h = (operand-within k n a h.0, operand-within k n b h.1)
-operands-within k n (expr.Eq a b) h = (operand-within k n a h.0, operand-within k n b h.1)
-operands-within k n (expr.Lt a b) h = (operand-within k n a h.0, operand-within k n b h.1)
-
 copy-within : (n : ℕ) (e : Expr) (x : Outcome) → IsExprWithin n e → IsExprWithin n (copy_or e x)
 unfolding copy_or
 copy-within n e Unknown h = h
@@ -77,7 +64,7 @@ copy-within n e ZeroDivisor h = h
 
 expr-within : (k : Knowledge) (n : ℕ) (e : Expr) → IsExprWithin n e → IsExprWithin n (folded_expr k e)
 unfolding folded_expr
-expr-within k n e h = copy-within n (folded_operands k e) (evaluated (folded_operands k e)) (operands-within k n e h)
+expr-within k n e h = copy-within n (folded_operands k e) (evaluated (folded_operands k e)) (operands_within (folded_operand k) n n (operand-within k n) e h)
 
 -- ---- moves, conds and guards
 

@@ -18,6 +18,7 @@ use Rattle.cj_base.specs.Machine.{branch}
 use Rattle.cj_draft.specs.declared.instructions.Pair.{Pair}
 use Rattle.cj_draft.specs.declared.instructions.VInstr.{VInstr}
 use Rattle.cj_draft.specs.declared.instructions.VInstr.TheVariants.{Nop, Op, Move, Cond, Call, Return, Print, Load, Store, Fail, Assume, Anchor}
+use Rattle.cj_draft.specs.Operands.{with_operands}
 use Rattle.cj_const.specs.declared.knowledge.Outcome.{Outcome}
 use Rattle.cj_const.specs.declared.knowledge.Outcome.TheVariants.{Unknown, Value, ZeroDivisor}
 use Rattle.cj_const.specs.Knowledge.{Knowledge, with_known, known_value, constant_or, folded_operand, folded_operands, is_constant, are_constants, evaluated}
@@ -72,7 +73,7 @@ two-same k k' f a b less e =
     ap₂ f (operand-same k k' a less h.0) (one-same k k' b less h.1)
 
 operands-same : (k k' : Knowledge) (e : Expr) → TellsNoMore k k' → are_constants (folded_operands k e) ≡ true → folded_operands k' e ≡ folded_operands k e
-unfolding folded_operands are_constants
+unfolding with_operands are_constants
 operands-same k k' (expr.Copy a) less e = ap expr.Copy (one-same k k' a less e)
 operands-same k k' (expr.Neg a) less e = ap expr.Neg (one-same k k' a less e)
 operands-same k k' (expr.Eqz a) less e = ap expr.Eqz (one-same k k' a less e)

@@ -6,8 +6,8 @@ use Rattle.cj_ir.specs.Verdicts.{expr_operands}
 use Rattle.cj_ir.specs.declared.language.Operand.{Operand}
 use Rattle.cj_ir.specs.declared.language.Operand.TheVariants as operand
 use Rattle.cj_ir.specs.declared.language.Expr.{Expr}
-use Rattle.cj_ir.specs.declared.language.Expr.TheVariants.{Copy, Neg, Eqz, Add, Sub, Mul, Div, Rem, Eq, Lt}
 use Rattle.cj_draft.specs.declared.facts.Fact.{Fact}
+use Rattle.cj_draft.specs.Operands.{with_operands}
 use Rattle.cj_const.specs.declared.knowledge.Outcome.{Outcome}
 use Rattle.cj_const.specs.declared.knowledge.Outcome.TheVariants.{Unknown, Value, ZeroDivisor}
 
@@ -38,17 +38,8 @@ unfoldable pub folded_operand : Knowledge → Operand → Operand
 folded_operand k o = constant_or o (known_value k o)
 
 -- the same of each operand of an expression
-unfoldable pub folded_operands : Knowledge → Expr → Expr
-folded_operands k (Copy a) = Copy (folded_operand k a)
-folded_operands k (Neg a) = Neg (folded_operand k a)
-folded_operands k (Eqz a) = Eqz (folded_operand k a)
-folded_operands k (Add a b) = Add (folded_operand k a) (folded_operand k b)
-folded_operands k (Sub a b) = Sub (folded_operand k a) (folded_operand k b)
-folded_operands k (Mul a b) = Mul (folded_operand k a) (folded_operand k b)
-folded_operands k (Div a b) = Div (folded_operand k a) (folded_operand k b)
-folded_operands k (Rem a b) = Rem (folded_operand k a) (folded_operand k b)
-folded_operands k (Eq a b) = Eq (folded_operand k a) (folded_operand k b)
-folded_operands k (Lt a b) = Lt (folded_operand k a) (folded_operand k b)
+abbrev pub folded_operands : Knowledge → Expr → Expr
+folded_operands k e = with_operands (folded_operand k) e
 
 unfoldable pub is_constant : Operand → Bool
 is_constant (operand.Reg r) = false

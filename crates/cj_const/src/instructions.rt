@@ -139,98 +139,28 @@ fn folded_guards(row: &Row, guards: &Guards) -> Result<Guards, NoMemory>
 pub(crate) fn folded_instr(row: &Row, instr: &VInstr) -> Result<VInstr, NoMemory>
     ensures { IfOk result (λ made. made ≡ folded_instr (known row.now) instr.now) }
 {
-    match *instr {
-        VInstr::Nop { next } => Ok(VInstr::Nop { next }),
-        VInstr::Op {
-            dest,
-            ref expr,
-            next,
-        } => {
-            let expr = folded_expr(row, expr);
-            Ok(VInstr::Op { dest, expr, next })
-        }
-        VInstr::Move { ref pairs, next } => {
-            let pairs = folded_pairs(row, pairs)?;
-            Ok(VInstr::Move { pairs, next })
-        }
+    let mut made = instr.copy()?;
+    match &mut made {
+        VInstr::Op { expr, .. } => *expr = folded_expr(row, expr),
+        VInstr::Move { pairs, .. } => *pairs = folded_pairs(row, pairs)?,
         VInstr::Cond {
             test,
             then_to,
             else_to,
         } => {
-            let value = known_value(row.items(), &test);
-            Ok(folded_cond(test, value, then_to, else_to))
+            let value = known_value(row.items(), test);
+            made = folded_cond(*test, value, *then_to, *else_to);
         }
-        VInstr::Call {
-            dest,
-            function,
-            ref args,
-            next,
-        } => {
-            let args = folded_args(row, args)?;
-            Ok(VInstr::Call {
-                dest,
-                function,
-                args,
-                next,
-            })
+        VInstr::Call { args, .. } => *args = folded_args(row, args)?,
+        VInstr::Return { value } => *value = folded_operand(row.items(), value),
+        VInstr::Print { value, .. } => *value = folded_operand(row.items(), value),
+        VInstr::Load { address, .. } => *address = folded_operand(row.items(), address),
+        VInstr::Store { address, value, .. } => {
+            *address = folded_operand(row.items(), address);
+            *value = folded_operand(row.items(), value);
         }
-        VInstr::Return { ref value } => {
-            let value = folded_operand(row.items(), value);
-            Ok(VInstr::Return { value })
-        }
-        VInstr::Print { ref value, next } => {
-            let value = folded_operand(row.items(), value);
-            Ok(VInstr::Print { value, next })
-        }
-        VInstr::Load {
-            dest,
-            ref address,
-            next,
-        } => {
-            let address = folded_operand(row.items(), address);
-            Ok(VInstr::Load {
-                dest,
-                address,
-                next,
-            })
-        }
-        VInstr::Store {
-            ref address,
-            ref value,
-            next,
-        } => {
-            let address = folded_operand(row.items(), address);
-            let value = folded_operand(row.items(), value);
-            Ok(VInstr::Store {
-                address,
-                value,
-                next,
-            })
-        }
-        VInstr::Fail { function, label } => Ok(VInstr::Fail { function, label }),
-        VInstr::Assume {
-            ref guards,
-            back,
-            ref target,
-            next,
-        } => {
-            let guards = folded_guards(row, guards)?;
-            let target = target.copy()?;
-            Ok(VInstr::Assume {
-                guards,
-                back,
-                target,
-                next,
-            })
-        }
-        VInstr::Anchor {
-            back,
-            ref target,
-            next,
-        } => {
-            let target = target.copy()?;
-            Ok(VInstr::Anchor { back, target, next })
-        }
+        VInstr::Assume { guards, .. } => *guards = folded_guards(row, guards)?,
+        VInstr::Nop { .. } | VInstr::Fail { .. } | VInstr::Anchor { .. } => {}
     }
+    Ok(made)
 }

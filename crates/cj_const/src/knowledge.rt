@@ -99,7 +99,7 @@ pub(crate) fn folded_operand(row: &[Option<i64>], operand: &Operand) -> Operand
 }
 
 /// The expression with constants in the place of operands whose values are known.
-#[tactic(auto, unfolding(crate::specs::Knowledge::folded_operands))]
+#[tactic(auto, unfolding(cj_draft::specs::Operands::with_operands))]
 pub(crate) fn folded_operands(row: &[Option<i64>], expr: &Expr) -> Expr
     ensures { result ≡ folded_operands (known row.now) expr.now }
 {

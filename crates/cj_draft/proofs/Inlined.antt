@@ -1,16 +1,14 @@
 -- A callee's places inside a caller: registers shifted, labels shifted, and the caller's frames appended.
 use Rattle.std.proofs.Common.{◌≡◌, ℕ, suc, ◌+◌, Bool, List, [], ◌∷◌, ◌++◌, length, map, Option, Some, None, refl, ap, ap₂, ◌∙◌, arith}
-use Rattle.std.specs.Prelude.{ℤ, pos, slice_set, if◌then◌else◌, true, false, ◌&&◌, ◌-ℤ◌, ◌*ℤ◌, ◌+ℤ◌, neg_ℤ, int_div, int_rem, int_lt}
+use Rattle.std.specs.Prelude.{ℤ, pos, slice_set, if◌then◌else◌, true, false, ◌&&◌}
 use Rattle.std.specs.Ordering.{int_eq}
 use Rattle.std.proofs.lemmas.List.{map-append, get_or-append-add}
-use Rattle.cj_ir.specs.Values.{register, operand_value, expr_value, wrap, divided, as_number}
+use Rattle.cj_ir.specs.Values.{register, operand_value, expr_value}
 use Rattle.cj_ir.specs.declared.language.Label.{Label}
 use Rattle.cj_ir.specs.declared.language.Reg.{Reg}
 use Rattle.cj_ir.specs.declared.language.Program.{Program}
 use Rattle.cj_ir.specs.declared.language.Operand.{Operand}
 use Rattle.cj_ir.specs.declared.language.Operand.TheVariants as operand
-use Rattle.cj_ir.specs.declared.language.Expr.{Expr}
-use Rattle.cj_ir.specs.declared.language.Expr.TheVariants as expr
 use Rattle.cj_ir.specs.declared.language.Guard.{Guard}
 use Rattle.cj_ir.specs.declared.language.Guard.TheVariants.{Is, Never}
 use Rattle.cj_base.specs.Machine.{over, Fault, BadAddress, ZeroDivisor, Effect, On, Calls, Returns, Faults, with_value, cell, with_cell, branch, op_effect, load_effect, store_effect}
@@ -20,7 +18,8 @@ use Rattle.cj_draft.specs.declared.instructions.VInstr.{VInstr}
 use Rattle.cj_draft.specs.declared.instructions.VInstr.TheVariants.{Nop, Op, Move, Cond, Call, Return, Print, Load, Store, Fail, Assume, Anchor}
 use Rattle.cj_draft.specs.Points.{frame_regs, top_of, waiting_of, stack_of, frames_of}
 use Rattle.cj_draft.specs.Effects.{VersionEffect, Plain, Guarded, guard_holds, guards_hold, moved, version_effect}
-use Rattle.cj_draft.specs.Inlining.{shift_reg, shift_label, shift_operand, shift_expr, shift_guard, shift_pair, shift_frame, joined, inlined_instr}
+use Rattle.cj_draft.specs.Inlining.{shift_reg, shift_label, shift_operand, shift_guard, shift_pair, shift_frame, joined, inlined_instr}
+use Rattle.cj_draft.proofs.OperandLemmas.{operands_value}
 
 -- ---- values
 
@@ -41,19 +40,6 @@ operand_shift a b (operand.Const v) = refl
 pub operands_shift : (a b : List ℤ) (os : List Operand) → map (operand_value (a ++ b)) (map (shift_operand (length a)) os) ≡ map (operand_value b) os
 operands_shift a b [] = refl
 operands_shift a b (o ∷ os) = ap₂ (λ x xs. x ∷ xs) (operand_shift a b o) (operands_shift a b os)
-
-expr_shift : (a b : List ℤ) (e : Expr) → expr_value (a ++ b) (shift_expr (length a) e) ≡ expr_value b e
-unfolding shift_expr
-expr_shift a b (expr.Copy x) = ap Some (operand_shift a b x)
-expr_shift a b (expr.Neg x) = ap (λ v. Some (wrap (neg_ℤ v))) (operand_shift a b x)
-expr_shift a b (expr.Eqz x) = ap (λ v. Some (as_number (int_eq v (pos 0)))) (operand_shift a b x)
-expr_shift a b (expr.Add x y) = ap₂ (λ v w. Some (wrap (v +ℤ w))) (operand_shift a b x) (operand_shift a b y)
-expr_shift a b (expr.Sub x y) = ap₂ (λ v w. Some (wrap (v -ℤ w))) (operand_shift a b x) (operand_shift a b y)
-expr_shift a b (expr.Mul x y) = ap₂ (λ v w. Some (wrap (v *ℤ w))) (operand_shift a b x) (operand_shift a b y)
-expr_shift a b (expr.Div x y) = ap₂ (divided int_div) (operand_shift a b x) (operand_shift a b y)
-expr_shift a b (expr.Rem x y) = ap₂ (divided int_rem) (operand_shift a b x) (operand_shift a b y)
-expr_shift a b (expr.Eq x y) = ap₂ (λ v w. Some (as_number (int_eq v w))) (operand_shift a b x) (operand_shift a b y)
-expr_shift a b (expr.Lt x y) = ap₂ (λ v w. Some (as_number (int_lt v w))) (operand_shift a b x) (operand_shift a b y)
 
 guard_shift : (a b : List ℤ) (g : Guard) → guard_holds (a ++ b) (shift_guard (length a) g) ≡ guard_holds b g
 unfolding guard_holds shift_guard shift_reg
@@ -117,7 +103,7 @@ pub effect-inlined : (a b m : List ℤ) (k : ℕ) (tail : List PointFrame) (dest
 unfolding version_effect inlined_instr inlined_effect inlined_plain op_effect load_effect store_effect moved shift_reg
 effect-inlined a b m k tail dest after (Nop n) = refl
 effect-inlined a b m k tail dest after (Op d e n) =
-    ap Plain (ap (λ o. with_value o ZeroDivisor (λ v. On (shift_label k n) (slice_set (a ++ b) (length a + d.0) v) m [])) (expr_shift a b e)
+    ap Plain (ap (λ o. with_value o ZeroDivisor (λ v. On (shift_label k n) (slice_set (a ++ b) (length a + d.0) v) m [])) (operands_value (shift_operand (length a)) (a ++ b) b (operand_shift a b) e)
     ∙ value_inlined a b m k dest after (expr_value b e) ZeroDivisor (λ v. On n (slice_set b d.0 v) m []) (λ v. On (shift_label k n) (slice_set (a ++ b) (length a + d.0) v) m []) (λ v. ap (λ r. On (shift_label k n) r m []) (set_shift a b d.0 v)))
 effect-inlined a b m k tail dest after (Move ps n) = ap (λ r. Plain (On (shift_label k n) r m [])) (moved_shift a b b ps)
 effect-inlined a b m k tail dest after (Cond t x y) =

@@ -15,6 +15,7 @@ pub mod Adopted
 pub mod BasePlaces
 pub mod BaseSound
 pub mod Extend
+pub mod OperandLemmas
 pub mod Inlined
 pub mod InlinedPlaces
 pub mod InlineParts

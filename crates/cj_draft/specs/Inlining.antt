@@ -9,8 +9,6 @@ use Rattle.cj_ir.specs.declared.language.Label.{Label}
 use Rattle.cj_ir.specs.declared.language.Reg.{Reg}
 use Rattle.cj_ir.specs.declared.language.Operand.{Operand}
 use Rattle.cj_ir.specs.declared.language.Operand.TheVariants as operand
-use Rattle.cj_ir.specs.declared.language.Expr.{Expr}
-use Rattle.cj_ir.specs.declared.language.Expr.TheVariants as expr
 use Rattle.cj_ir.specs.declared.language.Guard.{Guard}
 use Rattle.cj_ir.specs.declared.language.Guard.TheVariants.{Is, Never}
 use Rattle.cj_draft.specs.declared.points.PointFrame.{PointFrame}
@@ -22,6 +20,7 @@ use Rattle.cj_draft.specs.declared.instructions.Pair.{Pair}
 use Rattle.cj_draft.specs.declared.code.Place.{Place}
 use Rattle.cj_draft.specs.declared.instructions.VInstr.{VInstr}
 use Rattle.cj_draft.specs.declared.instructions.VInstr.TheVariants.{Nop, Op, Move, Cond, Call, Return, Print, Load, Store, Fail, Assume, Anchor}
+use Rattle.cj_draft.specs.Operands.{with_operands}
 
 -- the callee's registers follow the caller's n
 unfoldable pub shift_reg : ℕ → Reg → Reg
@@ -34,18 +33,6 @@ shift_label k label = record { 0 = k + label.0 }
 unfoldable pub shift_operand : ℕ → Operand → Operand
 shift_operand n (operand.Reg reg) = operand.Reg (shift_reg n reg)
 shift_operand n (operand.Const value) = operand.Const value
-
-unfoldable pub shift_expr : ℕ → Expr → Expr
-shift_expr n (expr.Copy a) = expr.Copy (shift_operand n a)
-shift_expr n (expr.Neg a) = expr.Neg (shift_operand n a)
-shift_expr n (expr.Eqz a) = expr.Eqz (shift_operand n a)
-shift_expr n (expr.Add a b) = expr.Add (shift_operand n a) (shift_operand n b)
-shift_expr n (expr.Sub a b) = expr.Sub (shift_operand n a) (shift_operand n b)
-shift_expr n (expr.Mul a b) = expr.Mul (shift_operand n a) (shift_operand n b)
-shift_expr n (expr.Div a b) = expr.Div (shift_operand n a) (shift_operand n b)
-shift_expr n (expr.Rem a b) = expr.Rem (shift_operand n a) (shift_operand n b)
-shift_expr n (expr.Eq a b) = expr.Eq (shift_operand n a) (shift_operand n b)
-shift_expr n (expr.Lt a b) = expr.Lt (shift_operand n a) (shift_operand n b)
 
 unfoldable pub shift_guard : ℕ → Guard → Guard
 shift_guard n (Is reg value) = Is (shift_reg n reg) value
@@ -65,7 +52,7 @@ joined n tail point = record { frames = map (shift_frame n) point.frames ++ tail
 -- return becomes a move of its value to the call's destination, which goes on after the call.
 unfoldable pub inlined_instr : ℕ → ℕ → List PointFrame → Reg → Label → VInstr → VInstr
 inlined_instr n k tail to after (Nop next) = Nop (shift_label k next)
-inlined_instr n k tail to after (Op dest e next) = Op (shift_reg n dest) (shift_expr n e) (shift_label k next)
+inlined_instr n k tail to after (Op dest e next) = Op (shift_reg n dest) (with_operands (shift_operand n) e) (shift_label k next)
 inlined_instr n k tail to after (Move pairs next) = Move (map (shift_pair n) pairs) (shift_label k next)
 inlined_instr n k tail to after (Cond test then_to else_to) =
     Cond (shift_operand n test) (shift_label k then_to) (shift_label k else_to)

@@ -1,5 +1,6 @@
 pub mod Points
 pub mod Effects
+pub mod Operands
 pub mod Edges
 pub mod WellNamed
 pub mod Arrives

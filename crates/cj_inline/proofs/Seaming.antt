@@ -27,7 +27,8 @@ use Rattle.cj_inline.specs.declared.seams.Seam.{Seam}
 use Rattle.cj_inline.specs.Inlining.{greatest_of, target_frames, back_frames, place_frames, inlined_back, inlined_place}
 use Rattle.cj_inline.proofs.Greatest.{greatest_bounds}
 use Rattle.cj_draft.proofs.Wider.{frames_wider, operands_wider, place_wider}
-use Rattle.cj_inline.proofs.Shifted.{operand_shifted, expr_shifted, operands_shifted, guards_shifted, pairs_shifted, frames_shifted, facts_joined}
+use Rattle.cj_draft.proofs.OperandLemmas.{operands_within}
+use Rattle.cj_inline.proofs.Shifted.{operand_shifted, operands_shifted, guards_shifted, pairs_shifted, frames_shifted, facts_joined}
 
 -- ---- the caller's frames
 
@@ -103,7 +104,7 @@ module _ (P : Program) (n r k l count most : ℕ) (tail : List PointFrame) (belo
   instr_inlined : (dest : Reg) (after : Label) → dest.0 < n + r → after.0 < k + l → (i : VInstr) → target_frames i ≤ most → IsVInstrFine P r l i → IsVInstrFine P (n + r) (k + l) (inlined_instr n k tail dest after i)
   unfolding inlined_instr shift_reg shift_label target_frames
   instr_inlined dest after d_in a_in (Nop x) few h = omega arith
-  instr_inlined dest after d_in a_in (Op d e x) few h = let v : d.0 < r = h.0 in let w : x.0 < l = h.2 in (omega arith, expr_shifted n r e h.1, omega arith)
+  instr_inlined dest after d_in a_in (Op d e x) few h = let v : d.0 < r = h.0 in let w : x.0 < l = h.2 in (omega arith, operands_within (shift_operand n) r (n + r) (operand_shifted n r) e h.1, omega arith)
   instr_inlined dest after d_in a_in (Move ps x) few h = let w : x.0 < l = h.1 in (pairs_shifted n r ps h.0, omega arith)
   instr_inlined dest after d_in a_in (Cond t x y) few h = let v : x.0 < l = h.1 in let w : y.0 < l = h.2 in (operand_shifted n r t h.0, omega arith, omega arith)
   instr_inlined dest after d_in a_in (Call d f args x) few h =

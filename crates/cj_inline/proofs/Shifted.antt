@@ -5,13 +5,11 @@ use Rattle.std.specs.List.Sorted.{IsStrictlyIncreasing}
 use Rattle.std.proofs.lemmas.Bool.{cases_lt}
 use Rattle.std.proofs.lemmas.List.{length-append, length-map, get_or-map, get_or_append_left, get_or-append-add}
 use Rattle.std.proofs.lemmas.List.Elements.{All-weaker, All-map, All-append}
-use Rattle.cj_ir.specs.Values.{IsOperandWithin, IsExprWithin}
+use Rattle.cj_ir.specs.Values.{IsOperandWithin}
 use Rattle.cj_ir.specs.declared.language.Reg.{Reg}
 use Rattle.cj_ir.specs.declared.language.Program.{Program}
 use Rattle.cj_ir.specs.declared.language.Operand.{Operand}
 use Rattle.cj_ir.specs.declared.language.Operand.TheVariants as operand
-use Rattle.cj_ir.specs.declared.language.Expr.{Expr}
-use Rattle.cj_ir.specs.declared.language.Expr.TheVariants as expr
 use Rattle.cj_ir.specs.declared.language.Guard.{Guard}
 use Rattle.cj_ir.specs.declared.language.Guard.TheVariants.{Is, Never}
 use Rattle.cj_draft.specs.declared.points.PointFrame.{PointFrame}
@@ -20,26 +18,13 @@ use Rattle.cj_draft.specs.declared.facts.Facts.{Facts}
 use Rattle.cj_draft.specs.declared.facts.Facts.TheVariants.{Unreached, Known}
 use Rattle.cj_draft.specs.declared.instructions.Pair.{Pair}
 use Rattle.cj_draft.specs.WellNamed.{IsPointFrameFine, IsGuardWithin, ArePairsFine, AreFactsFine, HasFineFacts}
-use Rattle.cj_draft.specs.Inlining.{shift_reg, shift_operand, shift_expr, shift_guard, shift_pair, shift_frame, shift_fact, joined_facts}
+use Rattle.cj_draft.specs.Inlining.{shift_reg, shift_operand, shift_guard, shift_pair, shift_frame, shift_fact, joined_facts}
 
 module _ (n r : ℕ) where
   pub operand_shifted : (o : Operand) → IsOperandWithin r o → IsOperandWithin (n + r) (shift_operand n o)
   unfolding shift_operand shift_reg
   operand_shifted (operand.Reg x) h = omega arith
   operand_shifted (operand.Const v) h = h
-
-  pub expr_shifted : (e : Expr) → IsExprWithin r e → IsExprWithin (n + r) (shift_expr n e)
-  unfolding shift_expr
-  expr_shifted (expr.Copy a) h = operand_shifted a h
-  expr_shifted (expr.Neg a) h = operand_shifted a h
-  expr_shifted (expr.Eqz a) h = operand_shifted a h
-  expr_shifted (expr.Add a b) h = (operand_shifted a h.0, operand_shifted b h.1)
-  expr_shifted (expr.Sub a b) h = (operand_shifted a h.0, operand_shifted b h.1)
-  expr_shifted (expr.Mul a b) h = (operand_shifted a h.0, operand_shifted b h.1)
-  expr_shifted (expr.Div a b) h = (operand_shifted a h.0, operand_shifted b h.1)
-  expr_shifted (expr.Rem a b) h = (operand_shifted a h.0, operand_shifted b h.1)
-  expr_shifted (expr.Eq a b) h = (operand_shifted a h.0, operand_shifted b h.1)
-  expr_shifted (expr.Lt a b) h = (operand_shifted a h.0, operand_shifted b h.1)
 
   pub operands_shifted : (os : List Operand) → All (IsOperandWithin r) os → All (IsOperandWithin (n + r)) (map (shift_operand n) os)
   operands_shifted os h =

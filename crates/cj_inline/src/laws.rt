@@ -1,36 +1,21 @@
 //! Laws of the pass. Their proofs are all that these functions have.
 
 ghost use Rattle.std.specs.Prelude.{◌≡◌, Some, None};
+ghost use Rattle.cj_ir.specs.declared.language.Label.{Label};
+ghost use Rattle.cj_ir.specs.declared.language.Program.{Program};
+ghost use Rattle.cj_draft.specs.declared.code.Code.{Code};
 ghost use Rattle.cj_draft.specs.declared.passes.Skipped.TheVariants.{NotCall};
 ghost use Rattle.cj_inline.specs.Inlining.{inline_offence, IsAfter};
 
-use cj_draft::Code;
-use cj_ir::{Label, Program};
-
 /// A code has one code after a callee is inlined.
-pub fn inlining_is_unique(
-    program: &Program,
-    code: &Code,
-    call: Label,
-    callee: &Code,
-    one: &Code,
-    other: &Code,
-)
-    requires one { IsAfter program.now code.now call callee.now one.now }
-    requires other { IsAfter program.now code.now call callee.now other.now }
-    ensures { one.now ≡ other.now }
+pub fn inlining_is_unique()
+    ensures { (P : Program) (code : Code) (call : Label) (callee one other : Code) →
+        IsAfter P code call callee one → IsAfter P code call callee other → one ≡ other }
 {}
 
 /// Where no condition is against it, the call is gone afterwards: nothing is inlined at its label again.
-pub fn call_is_inlined_once(
-    program: &Program,
-    code: &Code,
-    call: Label,
-    callee: &Code,
-    made: &Code,
-    again: &Code,
-)
-    requires free { inline_offence code.now call callee.now ≡ None }
-    requires after { IsAfter program.now code.now call callee.now made.now }
-    ensures { inline_offence made.now call again.now ≡ Some (NotCall call) }
+pub fn call_is_inlined_once()
+    ensures { (P : Program) (code callee made again : Code) (call : Label) →
+        inline_offence code call callee ≡ None → IsAfter P code call callee made →
+        inline_offence made call again ≡ Some (NotCall call) }
 {}

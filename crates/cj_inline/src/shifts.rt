@@ -3,7 +3,8 @@
 ghost use Rattle.std.specs.Prelude.{◌≡◌, ◌<◌, ◌≤◌, ℕ, All, IfOk, map};
 ghost use Rattle.cj_ir.specs.Values.{IsOperandWithin, IsExprWithin};
 ghost use Rattle.cj_draft.specs.WellNamed.{IsGuardWithin};
-ghost use Rattle.cj_draft.specs.Inlining.{shift_reg, shift_label, shift_operand, shift_expr, shift_guard, shift_pair, shift_frame, shift_fact};
+ghost use Rattle.cj_draft.specs.Operands.{with_operands};
+ghost use Rattle.cj_draft.specs.Inlining.{shift_reg, shift_label, shift_operand, shift_guard, shift_pair, shift_frame, shift_fact};
 
 use cj_draft::{Fact, Pair, PointFrame};
 use cj_ir::{Expr, Guard, Label, NoMemory, Operand, Reg, Sequence};
@@ -38,11 +39,11 @@ pub(crate) fn shifted_operand(by: u32, operand: Operand) -> Operand
     }
 }
 
-#[tactic(auto, unfolding(cj_draft::specs::Inlining::shift_expr))]
+#[tactic(auto, unfolding(cj_draft::specs::Operands::with_operands))]
 pub(crate) fn shifted_expr(by: u32, expr: Expr) -> Expr
     requires few { by ≤ 128 }
     requires within { IsExprWithin 128 expr }
-    ensures { result ≡ shift_expr by expr }
+    ensures { result ≡ with_operands (shift_operand by) expr }
 {
     match expr {
         Expr::Copy(a) => Expr::Copy(shifted_operand(by, a)),
