@@ -24,8 +24,8 @@ pub fn entry_frame(program: &Program, function: FunId, args: Values) -> Result<F
     })
 }
 
-// Appends that many zeros. Want of memory may leave some of them.
-pub(crate) fn push_zeros(values: &mut Values, count: usize) -> Result<(), NoMemory>
+/// Appends that many zeros. Want of memory may leave some of them.
+pub fn push_zeros(values: &mut Values, count: usize) -> Result<(), NoMemory>
     ensures { OnOk result (values.new ≡ values.old ++ replicate count (pos 0)) }
 {
     for _ in 0..count {

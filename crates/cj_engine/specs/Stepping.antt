@@ -81,6 +81,14 @@ pub record IsVersionStep (instr : VInstr) (args : List ℤ) (old new : State) (s
   pub marks : (v : VersionFrame) → old.stack.top ≡ InVersion v → version_marks v (version_effect instr v.regs old.memory) ≡ marks_told step v.function v.label args
   pub needs : VersionNeeds instr args step
 
+-- the instruction at that label of the version that a function has at an offset
+pub record StandsAt (codes : Codes) (f : FunId) (offset : ℕ) (label : Label) (instr : VInstr) : Type 0 where
+  pub code : Code
+  pub place : Place
+  pub found : codes f offset ≡ Some code
+  pub at : place_at code label ≡ Some place
+  pub is : place.instr ≡ instr
+
 -- A version that waits is at a call, whose destination is one of its registers.
 pub record IsCaller (codes : Codes) (v : VersionFrame) : Type 0 where
   pub code : Code

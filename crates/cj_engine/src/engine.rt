@@ -1,10 +1,11 @@
 //! The engine: a run, turn by turn.
 
-ghost use Rattle.std.specs.Prelude.{◌≡◌, ◌≢◌, ◌<◌, ◌≤◌, ◌+◌, [], ◌∷◌, ◌++◌, length, replicate, pos, Some, IsSome, IfOk, IfErr, OnOk, OnErr, ℤ, List, ℕ, Option, slice_get, true, false};
+ghost use Rattle.std.specs.Prelude.{◌≡◌, ◌≢◌, ◌<◌, ◌≤◌, ◌+◌, [], ◌∷◌, ◌++◌, length, Some, IsSome, IfOk, IfErr, OnOk, OnErr, ℤ, List, ℕ, Option, slice_get, true, false};
 ghost use Rattle.cj_ir.specs.WellFormed.{Takes};
 ghost use Rattle.cj_ir.specs.declared.language.Program.{Program};
 ghost use Rattle.cj_base.specs.Machine.{entry_regs, Calls};
 ghost use Rattle.cj_base.specs.Run.{Begun, begun};
+ghost use Rattle.cj_draft.specs.declared.instructions.VInstr.{VInstr};
 ghost use Rattle.cj_calls.specs.declared.report.Look.{Look};
 ghost use Rattle.cj_activations.specs.Activations.{Active, VersionFrame};
 ghost use Rattle.cj_activations.specs.Windows.{active_at};
@@ -17,7 +18,7 @@ ghost use Rattle.cj_engine.specs.CodeMaps.{Grows};
 ghost use Rattle.cj_engine.specs.Stands.{Stands, Holds};
 ghost use Rattle.cj_engine.specs.Watching.{Gains};
 ghost use Rattle.cj_engine.specs.Machines.{state_of, IsEarly, progress_of};
-ghost use Rattle.cj_engine.specs.Stepping.{Turn, IsStep, IsReady, IsCaller, CanTake, TurnTakesMemory, IsEntry, marks_told};
+ghost use Rattle.cj_engine.specs.Stepping.{Turn, StandsAt, IsStep, IsReady, IsCaller, CanTake, TurnTakesMemory, IsEntry, marks_told};
 ghost use Rattle.cj_engine.specs.Engines.{begun_with, IsUnderWay, IsRun, RunGoes, CanTurn, goes_on};
 
 use crate::machine::Machine;
@@ -25,6 +26,7 @@ use crate::scratch::Scratch;
 use crate::steps::Step;
 use crate::watch::Watch;
 use cj_activations::{Activations, Position, Waits};
+use cj_base::entry::push_zeros;
 use cj_base::{End, Turned};
 use cj_calls::{Look, Looks, Notes, Report};
 use cj_draft::VInstr;
@@ -66,7 +68,7 @@ impl<'p> Engine<'p> {
         ensures ready { W.ready watch.new }
     {
         let mut memory = Values::new(alloc);
-        push_zeros(&mut memory, call.cells)?;
+        push_zeros(&mut memory, call.cells as usize)?;
         let engine = Engine::start_with(alloc, checked, call, memory, watch)?;
         Ok(engine)
     }
@@ -202,8 +204,7 @@ impl<'p> Engine<'p> {
                 offset,
                 label,
             } => {
-                let code = watch.version(function, offset).code();
-                let instr = &code.places.items()[label.0 as usize].instr;
+                let instr = version_instr(watch, function, offset, label);
                 let step = self.machine.step_version(instr, &mut self.scratch)?;
                 let turned = self.carry(step, function, label, watch)?;
                 Ok(turned)
@@ -429,6 +430,16 @@ fn entry_at<W: Watch>(checked: &Checked, function: FunId, offset: u64, watch: &W
     }
 }
 
+// The instruction at that label of the version that a function has at that offset.
+fn version_instr<W: Watch>(watch: &W, function: FunId, offset: u64, label: Label) -> &VInstr
+    requires ready { W.ready watch.now }
+    requires there { (instr : VInstr) × StandsAt (W.codes watch.now) function offset label instr }
+    ensures { StandsAt (W.codes watch.now) function offset label result.now }
+{
+    let code = watch.version(function, offset).code();
+    &code.places.items()[label.0 as usize].instr
+}
+
 /// A version's call: where its value goes, and where it goes on.
 #[derive(Clone, Copy)]
 struct Caller {
@@ -443,22 +454,11 @@ fn caller_at<W: Watch>(watch: &W, function: FunId, offset: u64, label: Label) ->
     ensures { (regs : List ℤ) (caller : IsCaller (W.codes watch.now) (record { function = function; offset = offset; label = label; regs = regs })) →
         (result.dest ≡ caller.dest) × (result.next ≡ caller.next) }
 {
-    let code = watch.version(function, offset).code();
-    match &code.places.items()[label.0 as usize].instr {
+    match version_instr(watch, function, offset, label) {
         VInstr::Call { dest, next, .. } => Caller {
             dest: *dest,
             next: *next,
         },
         _ => unreachable!(),
     }
-}
-
-// Appends that many zeros. Want of memory may leave some of them.
-fn push_zeros(values: &mut Values, count: u32) -> Result<(), NoMemory>
-    ensures { OnOk result (values.new ≡ values.old ++ replicate count (pos 0)) }
-{
-    for _ in 0..count {
-        values.push(0)?;
-    }
-    Ok(())
 }

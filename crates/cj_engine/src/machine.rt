@@ -1,15 +1,16 @@
 //! The state of a run, and how one instruction changes it.
 
-ghost use Rattle.std.specs.Prelude.{◌≡◌, ◌<◌, ◌+◌, [], ◌∷◌, ◌++◌, length, slice_set, true, false, OnOk, OnErr, None, IsSome};
+ghost use Rattle.std.specs.Prelude.{◌≡◌, ◌<◌, ◌+◌, [], ◌∷◌, ◌++◌, length, slice_set, IfOk, OnOk};
 ghost use Rattle.cj_ir.specs.Values.{operand_value, IsOperandWithin, IsExprWithin};
-ghost use Rattle.cj_base.specs.Machine.{cell, with_cell, op_effect, load_effect, store_effect, branch};
+ghost use Rattle.cj_base.specs.Machine.{op_effect, load_effect, store_effect, branch};
 ghost use Rattle.cj_activations.specs.Changes.{active_regs, HasDest, returned};
-ghost use Rattle.cj_base.specs.declared.machine.Turned.TheVariants.{Ended};
+ghost use Rattle.cj_base.specs.declared.machine.Turned.TheVariants.{Running, Ended};
 ghost use Rattle.cj_engine.specs.Marks.{edge_of};
 ghost use Rattle.cj_engine.specs.Versions.{counted};
 ghost use Rattle.cj_engine.specs.Machines.{state_of, IsEarly, went_on, CarriesOut};
 
 use cj_activations::Activations;
+use cj_base::turns::{cell, set_cell};
 use cj_base::{End, Turned};
 use cj_calls::{Looks, Notes};
 use cj_ir::{Edge, Expr, Label, NoMemory, Operand, Reg, Values, eval};
@@ -51,19 +52,22 @@ impl Machine {
     }
 
     // The top goes on at the label.
-    pub(crate) fn go_to(&mut self, next: Label)
+    pub(crate) fn go_to(&mut self, next: Label) -> Turned
         requires { IsEarly (state_of self.old) }
+        ensures running { result ≡ Running }
         ensures made { state_of self.new ≡ went_on (state_of self.old) next (active_regs self.old.activations.top) self.old.memory [] }
         ensures looks { self.new.looks ≡ self.old.looks }
     {
         self.activations.go_to(next);
         self.count();
+        Turned::Running
     }
 
     // A register of the top is set, and it goes on at the label.
-    pub(crate) fn set_register(&mut self, dest: Reg, value: i64, next: Label)
+    pub(crate) fn set_register(&mut self, dest: Reg, value: i64, next: Label) -> Turned
         requires early { IsEarly (state_of self.old) }
         requires dest { dest.0 < length (active_regs self.old.activations.top) }
+        ensures running { result ≡ Running }
         ensures made { state_of self.new ≡ went_on (state_of self.old) next
             (slice_set (active_regs self.old.activations.top) dest.0 value) self.old.memory [] }
         ensures looks { self.new.looks ≡ self.old.looks }
@@ -71,6 +75,7 @@ impl Machine {
         self.activations.set_register(dest, value);
         self.activations.go_to(next);
         self.count();
+        Turned::Running
     }
 
     // The value of an operand over the registers of the top.
@@ -105,10 +110,7 @@ impl Machine {
     {
         match eval(expr, self.activations.top_registers()) {
             None => self.end(End::Divide),
-            Some(value) => {
-                self.set_register(dest, value, next);
-                Turned::Running
-            }
+            Some(value) => self.set_register(dest, value, next),
         }
     }
 
@@ -124,10 +126,7 @@ impl Machine {
         let address = self.value(address);
         match cell(self.memory.items(), address) {
             None => self.end(End::Address(address)),
-            Some(value) => {
-                self.set_register(dest, value, next);
-                Turned::Running
-            }
+            Some(value) => self.set_register(dest, value, next),
         }
     }
 
@@ -143,24 +142,23 @@ impl Machine {
         let address = self.value(address);
         let value = self.value(value);
         if set_cell(&mut self.memory, address, value) {
-            self.go_to(next);
-            Turned::Running
+            self.go_to(next)
         } else {
             self.end(End::Address(address))
         }
     }
 
-    pub(crate) fn print(&mut self, value: &Operand, next: Label) -> Result<(), NoMemory>
+    pub(crate) fn print(&mut self, value: &Operand, next: Label) -> Result<Turned, NoMemory>
         requires early { IsEarly (state_of self.old) }
         requires value { IsOperandWithin (length (active_regs self.old.activations.top)) value.now }
+        ensures running { IfOk result (λ turned. turned ≡ Running) }
         ensures made { OnOk result (state_of self.new ≡ went_on (state_of self.old) next (active_regs self.old.activations.top) self.old.memory
             (operand_value (active_regs self.old.activations.top) value.now ∷ [])) }
         ensures looks { self.new.looks ≡ self.old.looks }
     {
         let value = self.value(value);
         self.printed.push(value)?;
-        self.go_to(next);
-        Ok(())
+        Ok(self.go_to(next))
     }
 
     // A conditional branch, and the edge that it takes.
@@ -193,30 +191,4 @@ fn edge_of(test: i64) -> Edge
     ensures { result ≡ edge_of test }
 {
     if test == 0 { Edge::Else } else { Edge::Then }
-}
-
-// The value in the cell of an address, if there is one.
-#[tactic(auto, unfolding(cj_base::specs::Machine::cell))]
-fn cell(memory: &[i64], address: i64) -> Option<i64>
-    ensures { result ≡ cell memory.now address }
-{
-    match usize::try_from(address) {
-        Ok(place) if place < memory.len() => Some(memory[place]),
-        _ => None,
-    }
-}
-
-// Sets the cell of an address. False, and no change: there is none.
-#[tactic(auto, unfolding(cj_base::specs::Machine::cell, cj_base::specs::Machine::with_cell))]
-fn set_cell(memory: &mut Values, address: i64, value: i64) -> bool
-    ensures set { result ≡ true → (memory.new ≡ with_cell memory.old address value) × IsSome (cell memory.old address) }
-    ensures none { result ≡ false → (memory.new ≡ memory.old) × (cell memory.old address ≡ None) }
-{
-    match usize::try_from(address) {
-        Ok(place) if place < memory.items().len() => {
-            memory.set(place, value);
-            true
-        }
-        _ => false,
-    }
 }

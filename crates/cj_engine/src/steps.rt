@@ -4,7 +4,8 @@ ghost use Rattle.std.specs.Prelude.{◌≡◌, ◌<◌, ◌≤◌, ◌-◌, ◌+
 ghost use Rattle.cj_ir.specs.WellFormed.{IsInstrFine};
 ghost use Rattle.cj_ir.specs.declared.language.Program.{Program};
 ghost use Rattle.cj_base.specs.declared.machine.Frame.{Frame};
-ghost use Rattle.cj_ir.specs.Values.{operand_value};
+ghost use Rattle.cj_base.specs.declared.machine.Turned.TheVariants.{Running};
+ghost use Rattle.cj_ir.specs.Values.{operand_value, IsOperandWithin};
 ghost use Rattle.cj_base.specs.Machine.{effect};
 ghost use Rattle.cj_draft.specs.declared.instructions.VInstr.TheVariants.{Assume};
 ghost use Rattle.cj_draft.specs.Effects.{version_effect, guard_holds, guards_hold, moved};
@@ -15,6 +16,7 @@ ghost use Rattle.cj_activations.specs.Changes.{active_regs, position_of, with_re
 ghost use Rattle.cj_activations.specs.declared.windows.Position.TheVariants.{Base};
 ghost use Rattle.cj_engine.specs.Versions.{rebuilt, passed, keep_note};
 ghost use Rattle.cj_engine.specs.Machines.{state_of, IsEarly, went_on};
+ghost use Rattle.cj_engine.specs.declared.steps.Step.TheVariants.{Enters};
 ghost use Rattle.cj_engine.specs.Stepping.{CanGoBack, IsBaseStep, IsVersionStep, step_of, EffectTakesMemory, VersionTakesMemory};
 
 use crate::machine::Machine;
@@ -24,7 +26,7 @@ use cj_base::{End, Frame, Turned, Waitings};
 use cj_calls::Note;
 use cj_draft::laws::assignments_are_few;
 use cj_draft::{Pair, Pairs, Point, VInstr};
-use cj_ir::{Edge, FunId, Guard, Guards, Instr, Label, NoMemory, Reg};
+use cj_ir::{Edge, FunId, Guard, Guards, Instr, Label, NoMemory, Operands, Reg};
 
 /// What is left to do after an instruction.
 #[derive(Clone, Copy, Debug, PartialEq, Eq)]
@@ -75,10 +77,7 @@ impl Machine {
         ensures only_then { IfErr result (λ refused. (fr : Frame) → self.old.activations.top ≡ InBase fr → EffectTakesMemory (effect instr.now fr self.old.memory)) }
     {
         Ok(match instr {
-            Instr::Nop { next } => {
-                self.go_to(*next);
-                Step::Goes
-            }
+            Instr::Nop { next } => Step::from(self.go_to(*next)),
             Instr::Op { dest, expr, next } => Step::from(self.operate(*dest, expr, *next)),
             Instr::Cond {
                 test,
@@ -90,19 +89,9 @@ impl Machine {
                 function,
                 args,
                 next,
-            } => {
-                scratch.read(args.items(), self.activations.top_registers())?;
-                Step::Enters {
-                    dest: *dest,
-                    function: *function,
-                    next: *next,
-                }
-            }
+            } => self.call(*dest, *function, args, *next, scratch)?,
             Instr::Return { value } => Step::Returns(self.value(value)),
-            Instr::Print { value, next } => {
-                self.print(value, *next)?;
-                Step::Goes
-            }
+            Instr::Print { value, next } => Step::from(self.print(value, *next)?),
             Instr::Load {
                 dest,
                 address,
@@ -132,15 +121,9 @@ impl Machine {
         ensures only_then { IfErr result (λ refused. VersionTakesMemory (version_effect instr.now (active_regs self.old.activations.top) self.old.memory)) }
     {
         Ok(match instr {
-            VInstr::Nop { next } => {
-                self.go_to(*next);
-                Step::Goes
-            }
+            VInstr::Nop { next } => Step::from(self.go_to(*next)),
             VInstr::Op { dest, expr, next } => Step::from(self.operate(*dest, expr, *next)),
-            VInstr::Move { pairs, next } => {
-                self.assign(pairs, *next, scratch);
-                Step::Goes
-            }
+            VInstr::Move { pairs, next } => Step::from(self.assign(pairs, *next, scratch)),
             VInstr::Cond {
                 test,
                 then_to,
@@ -154,19 +137,9 @@ impl Machine {
                 function,
                 args,
                 next,
-            } => {
-                scratch.read(args.items(), self.activations.top_registers())?;
-                Step::Enters {
-                    dest: *dest,
-                    function: *function,
-                    next: *next,
-                }
-            }
+            } => self.call(*dest, *function, args, *next, scratch)?,
             VInstr::Return { value } => Step::Returns(self.value(value)),
-            VInstr::Print { value, next } => {
-                self.print(value, *next)?;
-                Step::Goes
-            }
+            VInstr::Print { value, next } => Step::from(self.print(value, *next)?),
             VInstr::Load {
                 dest,
                 address,
@@ -187,18 +160,37 @@ impl Machine {
                 target,
                 next,
             } => self.assume(guards, *back, target, *next)?,
-            VInstr::Anchor { next, .. } => {
-                self.pass(*next);
-                Step::Goes
-            }
+            VInstr::Anchor { next, .. } => Step::from(self.pass(*next)),
+        })
+    }
+
+    // A call, whose arguments are read into the scratch list.
+    fn call(
+        &self,
+        dest: Reg,
+        function: FunId,
+        args: &Operands,
+        next: Label,
+        scratch: &mut Scratch,
+    ) -> Result<Step, NoMemory>
+        requires { All (IsOperandWithin (length (active_regs self.now.activations.top))) args.now }
+        ensures enters { IfOk result (λ step. step ≡ Enters dest function next) }
+        ensures read { OnOk result (scratch.new.values.items ≡ map (operand_value (active_regs self.now.activations.top)) args.now) }
+    {
+        scratch.read(args.items(), self.activations.top_registers())?;
+        Ok(Step::Enters {
+            dest,
+            function,
+            next,
         })
     }
 
     // A Move: all its operands are read before the first register is written.
-    fn assign(&mut self, pairs: &Pairs, next: Label, scratch: &mut Scratch)
+    fn assign(&mut self, pairs: &Pairs, next: Label, scratch: &mut Scratch) -> Turned
         requires early { IsEarly (state_of self.old) }
         requires few { length (active_regs self.old.activations.top) ≤ 128 }
         requires pairs { ArePairsFine (length (active_regs self.old.activations.top)) pairs.now }
+        ensures running { result ≡ Running }
         ensures made { state_of self.new ≡ went_on (state_of self.old) next
             (moved (active_regs self.old.activations.top) pairs.now (active_regs self.old.activations.top)) self.old.memory [] }
         ensures looks { self.new.looks ≡ self.old.looks }
@@ -206,7 +198,7 @@ impl Machine {
         assignments_are_few(pairs, 128);
         scratch.read_pairs(pairs, self.activations.top_registers());
         write_pairs(&mut self.activations, pairs.items(), scratch.items());
-        self.go_to(next);
+        self.go_to(next)
     }
 
     // An Assume: it passes, or base frames take the version's place.
@@ -228,8 +220,7 @@ impl Machine {
             VersionTakesMemory (version_effect (Assume guards.now back target.now next) (active_regs self.old.activations.top) self.old.memory)) }
     {
         if guards_hold(guards.items(), self.activations.top_registers()) {
-            self.pass(next);
-            Ok(Step::Goes)
+            Ok(Step::from(self.pass(next)))
         } else {
             self.rebuild(back, target)?;
             Ok(Step::Fails)
@@ -238,13 +229,15 @@ impl Machine {
 
     // The guards of an Assume hold.
     #[tactic(auto, using(crate::proofs::Landing::passes), unfolding(crate::specs::Machines::state_of))]
-    fn pass(&mut self, next: Label)
+    fn pass(&mut self, next: Label) -> Turned
         requires early { IsEarly (state_of self.old) }
+        ensures running { result ≡ Running }
         ensures made { (v : VersionFrame) → self.old.activations.top ≡ InVersion v → state_of self.new ≡ passed (state_of self.old) v next }
         ensures looks { self.new.looks ≡ self.old.looks }
     {
         self.activations.go_to(next);
         self.turns += 1;
+        Turned::Running
     }
 
     #[tactic(auto, unfolding(crate::specs::Machines::state_of))]

@@ -16,19 +16,19 @@ pub returns-in-Nop-clause-made : goal.returns-in-Nop-clause-made
 unfolding state_of step_of effect base_marks effect_marks
 returns-in-Nop-clause-made c =
     let old = c.args.self.now in
-    rw c.in-Nop.is (base_by (base.Nop c.in-Nop.next) _ _ _ Running (λ regs. On c.in-Nop.next regs old.memory []) (λ fr. refl) (λ fr. refl) (ap Continues c.go_to.ensures.made))
+    rw (c.in-Nop.is, c.from.ensures, c.go_to.ensures.running) (base_by (base.Nop c.in-Nop.next) _ _ _ Running (λ regs. On c.in-Nop.next regs old.memory []) (λ fr. refl) (λ fr. refl) (ap Continues c.go_to.ensures.made))
 
 pub returns-in-Op-clause-made : goal.returns-in-Op-clause-made
 unfolding state_of step_of effect base_marks effect_marks
 returns-in-Op-clause-made c =
     let old = c.args.self.now in
-    rw (c.in-Op.is, c.from.ensures) (base_by (base.Op c.in-Op.dest c.in-Op.expr c.in-Op.next) _ _ _ c.operate.result (λ regs. op_effect c.in-Op.dest c.in-Op.expr c.in-Op.next regs old.memory) (λ fr. refl) (λ fr. refl) c.operate.ensures.made)
+    rw (c.in-Op.is, c.from-in-Op.ensures) (base_by (base.Op c.in-Op.dest c.in-Op.expr c.in-Op.next) _ _ _ c.operate.result (λ regs. op_effect c.in-Op.dest c.in-Op.expr c.in-Op.next regs old.memory) (λ fr. refl) (λ fr. refl) c.operate.ensures.made)
 
 pub returns-in_ok-print-in-Print-clause-made : goal.returns-in_ok-print-in-Print-clause-made
 unfolding state_of step_of effect base_marks effect_marks
 returns-in_ok-print-in-Print-clause-made c =
     let old = c.args.self.now in
-    rw c.in-Print.is (base_by (base.Print c.in-Print.value c.in-Print.next) _ _ _ Running (λ regs. On c.in-Print.next regs old.memory (operand_value regs c.in-Print.value ∷ [])) (λ fr. refl) (λ fr. refl) (ap Continues c.in_ok-print-in-Print.ensures.made))
+    rw (c.in-Print.is, c.from-in-Print.ensures, c.in_ok-print-in-Print.ensures.running) (base_by (base.Print c.in-Print.value c.in-Print.next) _ _ _ Running (λ regs. On c.in-Print.next regs old.memory (operand_value regs c.in-Print.value ∷ [])) (λ fr. refl) (λ fr. refl) (ap Continues c.in_ok-print-in-Print.ensures.made))
 
 pub returns-in-Load-clause-made : goal.returns-in-Load-clause-made
 unfolding state_of step_of effect base_marks effect_marks
@@ -42,12 +42,11 @@ returns-in-Store-clause-made c =
     let old = c.args.self.now in
     rw (c.in-Store.is, c.from-in-Store.ensures) (base_by (base.Store c.in-Store.address c.in-Store.value c.in-Store.next) _ _ _ c.store.result (λ regs. store_effect (operand_value regs c.in-Store.address) (operand_value regs c.in-Store.value) c.in-Store.next regs old.memory) (λ fr. refl) (λ fr. refl) c.store.ensures.made)
 
-pub returns-in_ok-read-in-Call-clause-made : goal.returns-in_ok-read-in-Call-clause-made
+pub returns-in_ok-call-in-Call-clause-made : goal.returns-in_ok-call-in-Call-clause-made
 unfolding state_of
-returns-in_ok-read-in-Call-clause-made c =
-    let old = c.args.self.now in
-    let read = rw (c.top_registers.ensures, c.items.ensures) at c.in_ok-read-in-Call.ensures in
-    rw c.in-Call.is (base_enters c.in-Call.dest c.in-Call.function c.in-Call.args c.in-Call.next _ (state_of old) read)
+returns-in_ok-call-in-Call-clause-made c =
+    let called = c.in_ok-call-in-Call.ensures in
+    rw (c.in-Call.is, called.enters) (base_enters c.in-Call.dest c.in-Call.function c.in-Call.args c.in-Call.next _ (state_of c.args.self.now) called.read)
 
 pub returns-in-Return-clause-made : goal.returns-in-Return-clause-made
 unfolding state_of
@@ -68,9 +67,9 @@ returns-in-Fail-clause-made c =
     let old = c.args.self.now in
     rw (c.in-Fail.is, c.from-in-Fail.ensures, c.end.ensures.ended) (base_fails c.in-Fail.text c.args.function c.args.label _ _ _ c.requires.position c.end.ensures.same)
 
-pub returns-in_err-read-in-Call-clause-only_then : goal.returns-in_err-read-in-Call-clause-only_then
+pub returns-in_err-call-in-Call-clause-only_then : goal.returns-in_err-call-in-Call-clause-only_then
 unfolding effect
-returns-in_err-read-in-Call-clause-only_then c =
+returns-in_err-call-in-Call-clause-only_then c =
     let old = c.args.self.now in
     rw c.in-Call.is (base_needs _ (base.Call c.in-Call.dest c.in-Call.function c.in-Call.args c.in-Call.next) _ old.memory (λ fr. tt))
 

@@ -17,19 +17,19 @@ pub returns-in-Nop-clause-made : goal.returns-in-Nop-clause-made
 unfolding state_of step_of version_effect
 returns-in-Nop-clause-made c =
     let old = c.args.self.now in
-    rw c.in-Nop.is (version_by (version.Nop c.in-Nop.next) _ _ _ Running (λ regs. On c.in-Nop.next regs old.memory []) (λ regs. refl) (ap Continues c.go_to.ensures.made))
+    rw (c.in-Nop.is, c.from.ensures, c.go_to.ensures.running) (version_by (version.Nop c.in-Nop.next) _ _ _ Running (λ regs. On c.in-Nop.next regs old.memory []) (λ regs. refl) (ap Continues c.go_to.ensures.made))
 
 pub returns-in-Op-clause-made : goal.returns-in-Op-clause-made
 unfolding state_of step_of version_effect
 returns-in-Op-clause-made c =
     let old = c.args.self.now in
-    rw (c.in-Op.is, c.from.ensures) (version_by (version.Op c.in-Op.dest c.in-Op.expr c.in-Op.next) _ _ _ c.operate.result (λ regs. op_effect c.in-Op.dest c.in-Op.expr c.in-Op.next regs old.memory) (λ regs. refl) c.operate.ensures.made)
+    rw (c.in-Op.is, c.from-in-Op.ensures) (version_by (version.Op c.in-Op.dest c.in-Op.expr c.in-Op.next) _ _ _ c.operate.result (λ regs. op_effect c.in-Op.dest c.in-Op.expr c.in-Op.next regs old.memory) (λ regs. refl) c.operate.ensures.made)
 
 pub returns-in_ok-print-in-Print-clause-made : goal.returns-in_ok-print-in-Print-clause-made
 unfolding state_of step_of version_effect
 returns-in_ok-print-in-Print-clause-made c =
     let old = c.args.self.now in
-    rw c.in-Print.is (version_by (version.Print c.in-Print.value c.in-Print.next) _ _ _ Running (λ regs. On c.in-Print.next regs old.memory (operand_value regs c.in-Print.value ∷ [])) (λ regs. refl) (ap Continues c.in_ok-print-in-Print.ensures.made))
+    rw (c.in-Print.is, c.from-in-Print.ensures, c.in_ok-print-in-Print.ensures.running) (version_by (version.Print c.in-Print.value c.in-Print.next) _ _ _ Running (λ regs. On c.in-Print.next regs old.memory (operand_value regs c.in-Print.value ∷ [])) (λ regs. refl) (ap Continues c.in_ok-print-in-Print.ensures.made))
 
 pub returns-in-Load-clause-made : goal.returns-in-Load-clause-made
 unfolding state_of step_of version_effect
@@ -43,12 +43,11 @@ returns-in-Store-clause-made c =
     let old = c.args.self.now in
     rw (c.in-Store.is, c.from-in-Store.ensures) (version_by (version.Store c.in-Store.address c.in-Store.value c.in-Store.next) _ _ _ c.store.result (λ regs. store_effect (operand_value regs c.in-Store.address) (operand_value regs c.in-Store.value) c.in-Store.next regs old.memory) (λ regs. refl) c.store.ensures.made)
 
-pub returns-in_ok-read-in-Call-clause-made : goal.returns-in_ok-read-in-Call-clause-made
+pub returns-in_ok-call-in-Call-clause-made : goal.returns-in_ok-call-in-Call-clause-made
 unfolding state_of
-returns-in_ok-read-in-Call-clause-made c =
-    let old = c.args.self.now in
-    let read = rw (c.top_registers.ensures, c.items.ensures) at c.in_ok-read-in-Call.ensures in
-    rw c.in-Call.is (version_enters c.in-Call.dest c.in-Call.function c.in-Call.args c.in-Call.next _ (state_of old) read)
+returns-in_ok-call-in-Call-clause-made c =
+    let called = c.in_ok-call-in-Call.ensures in
+    rw (c.in-Call.is, called.enters) (version_enters c.in-Call.dest c.in-Call.function c.in-Call.args c.in-Call.next _ (state_of c.args.self.now) called.read)
 
 pub returns-in-Return-clause-made : goal.returns-in-Return-clause-made
 unfolding state_of
@@ -67,11 +66,11 @@ pub returns-in-Move-clause-made : goal.returns-in-Move-clause-made
 unfolding state_of step_of version_effect
 returns-in-Move-clause-made c =
     let old = c.args.self.now in
-    rw c.in-Move.is (version_by (version.Move c.in-Move.pairs c.in-Move.next) _ _ _ Running (λ regs. On c.in-Move.next (moved regs c.in-Move.pairs regs) old.memory []) (λ regs. refl) (ap Continues c.assign.ensures.made))
+    rw (c.in-Move.is, c.from-in-Move.ensures, c.assign.ensures.running) (version_by (version.Move c.in-Move.pairs c.in-Move.next) _ _ _ Running (λ regs. On c.in-Move.next (moved regs c.in-Move.pairs regs) old.memory []) (λ regs. refl) (ap Continues c.assign.ensures.made))
 
-pub returns-in_err-read-in-Call-clause-only_then : goal.returns-in_err-read-in-Call-clause-only_then
+pub returns-in_err-call-in-Call-clause-only_then : goal.returns-in_err-call-in-Call-clause-only_then
 unfolding version_effect
-returns-in_err-read-in-Call-clause-only_then c =
+returns-in_err-call-in-Call-clause-only_then c =
     let old = c.args.self.now in
     rw c.in-Call.is (version_needs _ (version_effect (version.Call c.in-Call.dest c.in-Call.function c.in-Call.args c.in-Call.next) (active_regs old.activations.top) old.memory) tt)
 
@@ -89,9 +88,9 @@ returns-in-Fail-clause-made c =
     (version_by (version.Fail c.in-Fail.function c.in-Fail.label) _ _ _ (Ended (Failed c.in-Fail.function c.in-Fail.label)) (λ regs. Faults (FailedAt c.in-Fail.function c.in-Fail.label)) (λ regs. refl) (ap (Finishes (Failed c.in-Fail.function c.in-Fail.label)) c.end.ensures.same))
 
 pub returns-in-Anchor-clause-made : goal.returns-in-Anchor-clause-made
-unfolding version_effect state_of
+unfolding version_effect state_of step_of
 returns-in-Anchor-clause-made c =
-    rw c.in-Anchor.is (version_passes_by (version.Anchor c.in-Anchor.back c.in-Anchor.target c.in-Anchor.next) _ _ _ c.in-Anchor.back c.in-Anchor.target c.in-Anchor.next refl c.pass.ensures.made)
+    rw (c.in-Anchor.is, c.from-in-Anchor.ensures, c.pass.ensures.running) (version_passes_by (version.Anchor c.in-Anchor.back c.in-Anchor.target c.in-Anchor.next) _ _ _ c.in-Anchor.back c.in-Anchor.target c.in-Anchor.next refl c.pass.ensures.made)
 
 pub returns-in_ok-assume-in-Assume-clause-made : goal.returns-in_ok-assume-in-Assume-clause-made
 unfolding state_of
