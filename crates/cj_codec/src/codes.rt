@@ -1,6 +1,6 @@
 //! The words of codes.
 
-ghost use Rattle.std.specs.Prelude.{◌≡◌, ◌<◌, ◌++◌, ◌∷◌, length, ◌↔◌, Some, OnOk, IfOk, IfErr};
+ghost use Rattle.std.specs.Prelude.{◌≡◌, ◌-◌, ◌^◌, ◌<◌, ◌++◌, ◌∷◌, length, ◌↔◌, Some, OnOk, IfOk, IfErr};
 ghost use Rattle.cj_draft.specs.declared.code.Code.{Code};
 ghost use Rattle.cj_codec.specs.Counting.{capped};
 ghost use Rattle.cj_codec.specs.Spelling.{spelling, body_words};
@@ -29,10 +29,12 @@ pub enum EncodeError {
     NoMemory,
 }
 
-// How many words the spelling has, capped.
+/// How many words the spelling of a code has, which takes no memory to count. Where they are more than 2^64 - 1, it is that
+/// number.
 #[tactic(auto, using(crate::proofs::Capped::capped_more))]
-fn count_words(code: &Code) -> u64
-    ensures { result ≡ capped (length (spelling code.now)) }
+pub fn word_count(code: &Code) -> u64
+    ensures count { result ≡ capped (length (spelling code.now)) }
+    ensures exact { result < 2 ^ 64 - 1 → result ≡ length (spelling code.now) }
 {
     code.places.count(5)
 }
@@ -68,7 +70,7 @@ pub fn encode(alloc: Global, code: &Code) -> Result<Words, EncodeError>
     ensures words { IfOk result (λ words. Spells words code.now) }
     ensures too_large { IfErr result (λ error. EncodeFails error code.now) }
 {
-    let len = count_words(code);
+    let len = word_count(code);
     if len > MAX_WORDS {
         return Err(EncodeError::TooLarge { len });
     }

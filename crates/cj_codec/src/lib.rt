@@ -12,7 +12,7 @@ pub mod points;
 pub mod reader;
 pub mod spelled;
 
-pub use codes::{EncodeError, MAX_WORDS, decode, encode};
+pub use codes::{EncodeError, MAX_WORDS, decode, encode, word_count};
 pub use spelled::{Spelled, Words};
 
 #[cfg(test)]
