@@ -153,7 +153,3 @@ module _ (P : Program) (codes : Codes) where
 
 pub plain_report_is : (P : Program) (codes : Codes) (trail : List Look) (call : Begun) (r : Report) → IsPlainTrail trail → version_report P codes trail call ≡ Some r → IsPlainReport r
 plain_report_is P codes trail call r plain found = subst (λ o. IfSome o IsPlainReport) found (plain_report P codes trail plain call)
-
-pub no_codes_sound : (P : Program) → SoundCodes P no_codes
-unfolding no_codes
-no_codes_sound P f offset code found = let never : ⊥ = cc in absurd never

@@ -1,21 +1,31 @@
 -- A run that is started by hand and makes its turns one by one.
-use Rattle.std.proofs.Common.{◌<◌, ℕ, refl, sym, subst, List, Option}
+use Rattle.std.proofs.Common.{◌≡◌, ◌<◌, ℕ, refl, sym, subst, List}
 use Rattle.std.specs.Prelude.{ℤ}
 use Rattle.cj_ir.specs.declared.language.Program.{Program}
 use Rattle.cj_ir.specs.declared.script.ScriptCall.{ScriptCall}
+use Rattle.cj_base.specs.declared.machine.Turned.{Turned}
+use Rattle.cj_base.specs.declared.machine.Turned.TheVariants.{Running}
+use Rattle.cj_base.specs.Run.{Begun}
 use Rattle.cj_calls.specs.declared.report.Look.{Look}
-use Rattle.cj_draft.specs.Bodies.{Body}
 use Rattle.cj_engine.specs.Versions.{State}
-use Rattle.cj_engine.specs.Engines.{begun_with, IsUnderWay, IsRun}
-use Rattle.cj_engine.specs.OneVersion.{one_code, Walks}
+use Rattle.cj_engine.specs.CodeMaps.{no_codes}
+use Rattle.cj_engine.specs.Engines.{begun_with, IsUnderWay, IsRun, RunGoes}
+use Rattle.cj_engine.specs.Walks.{Walks}
 use Rattle.cj_engine.proofs.Going.{run_under_way}
 
 -- the start
-pub run_walks : (P : Program) (version : Option Body) (looks : List Look) (call : ScriptCall) (memory : List ℤ) (s : State) → IsRun P (one_code version) looks (begun_with call memory) s → Walks P version looks call.limit s
+pub run_walks : (P : Program) (looks : List Look) (call : ScriptCall) (memory : List ℤ) (s : State) → IsRun P no_codes looks (begun_with call memory) s → Walks P looks call.limit s
 unfolding begun_with
-run_walks P version looks call memory s is = record { call = begun_with call memory; same = refl; run = is }
+run_walks P looks call memory s is = record { call = begun_with call memory; same = refl; run = is }
 
 -- before the limit a turn can be made
-pub walk_under_way : (P : Program) (version : Option Body) (looks : List Look) (limit : ℕ) (s : State) → Walks P version looks limit s → s.turns < limit → IsUnderWay P (one_code version) s
-walk_under_way P version looks limit s w before =
-    run_under_way P (one_code version) looks w.call s w.run (subst (λ (n : ℕ). s.turns < n) (sym w.same) before)
+pub walk_under_way : (P : Program) (looks : List Look) (limit : ℕ) (s : State) → Walks P looks limit s → s.turns < limit → IsUnderWay P no_codes s
+walk_under_way P looks limit s w before =
+    run_under_way P no_codes looks w.call s w.run (subst (λ (n : ℕ). s.turns < n) (sym w.same) before)
+
+-- and after a turn that goes on so can a further one
+pub walk_goes : (P Q : Program) (looks later : List Look) (limit : ℕ) (s t : State) (answer : Turned) → Q ≡ P → Walks P looks limit s → s.turns < limit
+    → ((call : Begun) → IsRun P no_codes looks call s → s.turns < call.limit → RunGoes P no_codes later call answer t) → answer ≡ Running → Walks Q later limit t
+walk_goes P Q looks later limit s t answer same w before goes is =
+    let run : RunGoes P no_codes later w.call Running t = subst (λ (a : Turned). RunGoes P no_codes later w.call a t) is (goes w.call w.run (subst (λ (n : ℕ). s.turns < n) (sym w.same) before)) in
+    subst (λ (R : Program). Walks R later limit t) (sym same) (record { call = w.call; same = w.same; run = run })

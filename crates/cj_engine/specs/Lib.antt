@@ -7,4 +7,4 @@ pub mod Watching
 pub mod Machines
 pub mod Stepping
 pub mod Engines
-pub mod OneVersion
+pub mod Walks
