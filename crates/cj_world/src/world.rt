@@ -19,8 +19,7 @@ use crate::cache::Cache;
 use crate::played::{Compiled, CompiledList, Played, SkipLists};
 use crate::runs::Run;
 use cj_calls::Reports;
-use cj_codec::laws::named_code_is_in_range;
-use cj_codec::{EncodeError, encode};
+use cj_codec::MAX_WORDS;
 use cj_draft::{Passes, Version};
 use cj_engine::laws::{later_codes_keep_a_report, later_codes_keep_a_run};
 use cj_events::Event;
@@ -146,7 +145,7 @@ impl<'p> World<'p> {
         ensures words { OnOk result (self.new.words ≡ self.old.words) }
         ensures orderly { OnOk result (Orderly self.new) }
     {
-        let need = match word_count(self.alloc, &version)? {
+        let need = match word_count(&version) {
             WordCount::TooLarge { len } => return Ok(Compiled::TooLarge { len }),
             WordCount::Few(need) => need,
         };
@@ -205,14 +204,13 @@ impl<'p> World<'p> {
 
 // How many words the version's code has.
 #[tactic(auto, unfolding(crate::specs::Worlds::words_in))]
-fn word_count(alloc: Global, version: &Version<'_>) -> Result<WordCount, NoMemory>
-    ensures { IfOk result (HasWords (words_in version.now.code)) }
+fn word_count(version: &Version<'_>) -> WordCount
+    ensures { HasWords (words_in version.now.code) result }
 {
-    let code = version.code();
-    named_code_is_in_range(version.checked().program(), code);
-    match encode(alloc, code) {
-        Ok(words) => Ok(WordCount::Few(words.items().len() as u32)),
-        Err(EncodeError::TooLarge { len }) => Ok(WordCount::TooLarge { len }),
-        Err(EncodeError::NoMemory) => Err(NoMemory),
+    let len = cj_codec::word_count(version.code());
+    if len <= MAX_WORDS {
+        WordCount::Few(len as u32)
+    } else {
+        WordCount::TooLarge { len }
     }
 }

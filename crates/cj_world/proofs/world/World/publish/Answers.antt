@@ -9,7 +9,7 @@ use Rattle.cj_world.proofs.world.World.publish.Goals as goal
 pub returns-in-TooLarge-clause-answer : goal.returns-in-TooLarge-clause-answer
 returns-in-TooLarge-clause-answer c =
     let w = c.args.self.now in
-    let count = subst (λ (n : WordCount). HasWords (words_in c.args.version.code) n) c.in-TooLarge.is c.in_ok-len.ensures in
+    let count = subst (λ (n : WordCount). HasWords (words_in c.args.version.code) n) c.in-TooLarge.is c.word_count.ensures in
     ap (λ len. TooLarge len) count.1 ∙ claimed_large w.words w.next (words_in c.args.version.code) count.0
 
 pub returns-in-TooLarge-clause-made : goal.returns-in-TooLarge-clause-made
@@ -20,7 +20,7 @@ pub returns-then-next-need-clause-answer : goal.returns-then-next-need-clause-an
 returns-then-next-need-clause-answer c =
     let w = c.args.self.now in
     let len = words_in c.args.version.code in
-    let count = subst (λ (n : WordCount). HasWords len n) c.in-Few.is c.in_ok-len.ensures in
+    let count = subst (λ (n : WordCount). HasWords len n) c.in-Few.is c.word_count.ensures in
     let same : c.in-Few.need ≡ len = count.1 in
     let more : w.words < w.next + len = omega arith in
     ap (λ need. Full w.next need) same ∙ claimed_full w.words w.next len count.0 more
@@ -33,7 +33,7 @@ pub returns-clause-answer : goal.returns-clause-answer
 returns-clause-answer c =
     let w = c.args.self.now in
     let len = words_in c.args.version.code in
-    let count = subst (λ (n : WordCount). HasWords len n) c.in-Few.is c.in_ok-len.ensures in
+    let count = subst (λ (n : WordCount). HasWords len n) c.in-Few.is c.word_count.ensures in
     let same : c.in-Few.need ≡ len = count.1 in
     let room : w.next + len ≤ w.words = omega arith in
     claimed_room w.words w.next len count.0 room
@@ -43,7 +43,7 @@ returns-clause-made c =
     let w = c.args.self.now in
     let e = c.in_ok-publish.ensures in
     let len = words_in c.args.version.code in
-    let count = subst (λ (n : WordCount). HasWords len n) c.in-Few.is c.in_ok-len.ensures in
+    let count = subst (λ (n : WordCount). HasWords len n) c.in-Few.is c.word_count.ensures in
     published_world c.args.version.code w _ (ap (λ need. w.next + need) count.1) e.current e.made refl e.trail refl refl
 
 pub returns-clause-orderly : goal.returns-clause-orderly
@@ -51,5 +51,5 @@ returns-clause-orderly c =
     let w = c.args.self.now in
     let e = c.in_ok-publish.ensures in
     let len = words_in c.args.version.code in
-    let count = subst (λ (n : WordCount). HasWords len n) c.in-Few.is c.in_ok-len.ensures in
+    let count = subst (λ (n : WordCount). HasWords len n) c.in-Few.is c.word_count.ensures in
     published_orderly c.later_codes_keep_a_run.ensures c.later_codes_keep_a_report.ensures c.args.version.code w _ e.ready e.checked (ap (λ need. w.next + need) count.1) e.made refl c.requires.orderly
