@@ -1,4 +1,5 @@
 # A bank of two accounts: pays in, and transfers 200 with a fee of a tenth where the first account has them.
+# corejit alone < examples/bank.cj
 fun main(k; r) {
 1: op r = k * 100 -> 2
 2: call r = deposit(0, r) -> 3

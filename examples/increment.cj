@@ -1,4 +1,5 @@
 # The increment: prints n + 1, and returns it.
+# corejit alone < examples/increment.cj
 fun main(n; r) {
 1: op r = n + 1 -> 2
 2: print r -> 3

@@ -1,4 +1,5 @@
 # The least value over -1 is the least value, with remainder 0.
+# corejit alone < examples/least_over_minus_one.cj
 fun main(n; r) {
 1: op r = n / -1 -> 2
 2: print r -> 3

@@ -1,4 +1,5 @@
 # A memory has 64 cells where nothing is said. An address outside ends the run.
+# corejit alone < examples/memory_bounds.cj
 fun main(a) {
 1: store [a] = 9 -> 2
 2: load a = [a] -> 3

@@ -1,4 +1,5 @@
 # Ten thousand waiting frames.
+# corejit alone < examples/recursion.cj
 fun main(n; r) {
 1: cond n -> 2, 4
 2: op r = n - 1 -> 3
