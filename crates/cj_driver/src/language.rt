@@ -7,9 +7,7 @@ use std::test::Fail;
 
 // Checks what a function of the lines writes where a is 7 and b is 2.
 fn writes(rt: &impl Abort, alloc: Global, lines: &str, text: &str) -> Result<(), Fail> {
-    let input = format!(in alloc;
-        "fun main(a, b; r) {{ {lines} }} calls call main 7 2 limit 100"
-    )?;
+    let input = format!(in alloc; "fun main(a, b; r) {{ {lines} }} calls call main 7 2 limit 100")?;
     let text = format!(in alloc; "call 1\n{text}\n")?;
     check(rt, alloc, &["alone"], input.as_bytes(), 0, &text)
 }

@@ -23,7 +23,7 @@ fn repeated(alloc: Global, piece: &str, count: u32) -> Result<String, AllocError
 }
 
 // That many different names.
-fn names(alloc: Global, count: u32) -> Result<String, AllocError> {
+fn register_names(alloc: Global, count: u32) -> Result<String, AllocError> {
     let mut text = String::from_str(alloc, "r")?;
     for k in 1..count {
         text.push_str(&format!(in alloc; ", r{k}")?)?;
@@ -102,75 +102,53 @@ fn characters_numbers_and_syntax(rt: HostRuntime) -> Result<(), Fail> {
 }
 
 #[test]
-fn names_and_texts(rt: HostRuntime) -> Result<(), Fail> {
+fn long_names_and_texts(rt: HostRuntime) -> Result<(), Fail> {
     let alloc = rt.alloc();
-    for input in [
-        format!(in alloc;
-            "fun {LONG}({LONG}) {{ 1: fail \"{SAID}\" 2: return {LONG} }} calls guess {LONG} {LONG} 1"
-        )?,
-        format!(in alloc;
-            "fun f(x; y) {{ 1: call y = g(x, y) -> 1 }} fun g(x, y) {{ 1: return y }} calls"
-        )?,
-    ] {
-        accepted(&rt, alloc, &input)?;
-    }
+    let input = format!(in alloc;
+        "fun {LONG}({LONG}) {{ 1: fail \"{SAID}\" 2: return {LONG} }} calls guess {LONG} {LONG} 1"
+    )?;
+    accepted(&rt, alloc, &input)?;
+    let input = format!(in alloc; "fun {LONG}9() {{\n1: return x }} calls")?;
+    refused(&rt, alloc, &input, "1: TooMany")?;
+    let input = format!(in alloc; "fun f(\n{LONG}9) {{ 1: return x }} calls")?;
+    refused(&rt, alloc, &input, "2: TooMany")?;
+    // more than 32 bytes stand before a register that is not there
+    let input = format!(in alloc; "fun f() {{\n1: return {LONG}9 }} calls")?;
+    refused(&rt, alloc, &input, "2: TooMany")?;
+    let input = format!(in alloc; "fun f() {{\n1: fail \"{SAID}.\" }} calls")?;
+    refused(&rt, alloc, &input, "2: TooMany")
+}
+
+#[test]
+fn names(rt: HostRuntime) -> Result<(), Fail> {
+    let alloc = rt.alloc();
+    let input = "fun f(x; y) { 1: call y = g(x, y) -> 1 } fun g(x, y) { 1: return y } calls";
+    accepted(&rt, alloc, input)?;
     for (input, line) in [
         (
-            format!(in alloc; "fun {LONG}9() {{\n1: return x }} calls")?,
-            "1: TooMany",
-        ),
-        (
-            format!(in alloc; "fun f(\n{LONG}9) {{ 1: return x }} calls")?,
-            "2: TooMany",
-        ),
-        // more than 32 bytes stand before a register that is not there
-        (
-            format!(in alloc; "fun f() {{\n1: return {LONG}9 }} calls")?,
-            "2: TooMany",
-        ),
-        (
-            format!(in alloc; "fun f() {{\n1: fail \"{SAID}.\" }} calls")?,
-            "2: TooMany",
-        ),
-        (
-            format!(in alloc; "fun f() {{ 1: return 0 }}\nfun f() {{ 1: return 0 }} calls")?,
+            "fun f() { 1: return 0 }\nfun f() { 1: return 0 } calls",
             "2: NameTwice",
         ),
+        ("fun f(a; b,\na) { 1: return 0 } calls", "2: NameTwice"),
+        ("fun f(a) {\n1: op b = a -> 1 } calls", "2: NoRegister"),
+        ("fun f(a) {\n1: op a = b -> 1 } calls", "2: NoRegister"),
+        ("fun f(a) {\n1: call a = g(a) -> 1 } calls", "2: NoFunction"),
+        ("fun f(a) {\n1: call a = f() -> 1 } calls", "2: Arguments"),
+        ("fun f() { }\ncalls", "1: NoEntry"),
         (
-            format!(in alloc; "fun f(a; b,\na) {{ 1: return 0 }} calls")?,
-            "2: NameTwice",
-        ),
-        (
-            format!(in alloc; "fun f(a) {{\n1: op b = a -> 1 }} calls")?,
-            "2: NoRegister",
-        ),
-        (
-            format!(in alloc; "fun f(a) {{\n1: op a = b -> 1 }} calls")?,
-            "2: NoRegister",
-        ),
-        (
-            format!(in alloc; "fun f(a) {{\n1: call a = g(a) -> 1 }} calls")?,
-            "2: NoFunction",
-        ),
-        (
-            format!(in alloc; "fun f(a) {{\n1: call a = f() -> 1 }} calls")?,
-            "2: Arguments",
-        ),
-        (format!(in alloc; "fun f() {{ }}\ncalls")?, "1: NoEntry"),
-        (
-            format!(in alloc; "fun f(a; b) {{ 1: return b }}\ncalls\nguess f b 1")?,
+            "fun f(a; b) { 1: return b }\ncalls\nguess f b 1",
             "3: NoRegister",
         ),
         (
-            format!(in alloc; "fun f(a) {{ 1: return a }}\ncalls\nguess g a 1")?,
+            "fun f(a) { 1: return a }\ncalls\nguess g a 1",
             "3: NoFunction",
         ),
         (
-            format!(in alloc; "fun f(a) {{ 1: return a }}\ncalls\ncall f limit 1")?,
+            "fun f(a) { 1: return a }\ncalls\ncall f limit 1",
             "3: Arguments",
         ),
     ] {
-        refused(&rt, alloc, &input, line)?;
+        refused(&rt, alloc, input, line)?;
     }
     Ok(())
 }
@@ -246,62 +224,48 @@ fn numbers_of_a_script(rt: HostRuntime) -> Result<(), Fail> {
 }
 
 #[test]
-fn the_many(rt: HostRuntime) -> Result<(), Fail> {
+fn many_parameters_and_registers(rt: HostRuntime) -> Result<(), Fail> {
     let alloc = rt.alloc();
-    for input in [
-        format!(in alloc; "fun f({}) {{ 1: return 0 }} calls", names(alloc, 8)?)?,
-        format!(in alloc; "fun f(;{}) {{ 1: return 0 }} calls", names(alloc, 32)?)?,
-        format!(in alloc; "fun f() {{ {} }} calls", lines(alloc, 256)?)?,
-        format!(in alloc; "{}calls", functions(alloc, 64)?)?,
-    ] {
-        accepted(&rt, alloc, &input)?;
-    }
-    for (input, line) in [
-        (
-            format!(in alloc; "fun f({},\nx) {{ 1: return 0 }} calls", names(alloc, 8)?)?,
-            "2: TooMany",
-        ),
-        (
-            format!(in alloc; "fun f(;{},\nx) {{ 1: return 0 }} calls", names(alloc, 32)?)?,
-            "2: TooMany",
-        ),
-        (
-            format!(in alloc;
-                "fun f(x;{},\ny) {{ 1: return 0 }} calls",
-                names(alloc, 31)?
-            )?,
-            "2: TooMany",
-        ),
-        (
-            format!(in alloc; "fun f() {{ {} }} calls", lines(alloc, 257)?)?,
-            "257: TooMany",
-        ),
-        (
-            format!(in alloc; "{}calls", functions(alloc, 65)?)?,
-            "65: TooMany",
-        ),
-        (
-            format!(in alloc;
-                "{MAIN}{}\ncall main limit 1",
-                repeated(alloc, "call main limit 1 ", 256)?
-            )?,
-            "3: TooMany",
-        ),
-        (
-            format!(in alloc;
-                "{MAIN}{}\ncall main limit 1",
-                repeated(alloc, "call main limit 1000000 ", 4)?
-            )?,
-            "3: TooMany",
-        ),
-    ] {
-        refused(&rt, alloc, &input, line)?;
-    }
+    let eight = register_names(alloc, 8)?;
+    let many = register_names(alloc, 32)?;
+    let input = format!(in alloc; "fun f({eight}) {{ 1: return 0 }} calls")?;
+    accepted(&rt, alloc, &input)?;
+    let input = format!(in alloc; "fun f(;{many}) {{ 1: return 0 }} calls")?;
+    accepted(&rt, alloc, &input)?;
+    let input = format!(in alloc; "fun f({eight},\nx) {{ 1: return 0 }} calls")?;
+    refused(&rt, alloc, &input, "2: TooMany")?;
+    let input = format!(in alloc; "fun f(;{many},\nx) {{ 1: return 0 }} calls")?;
+    refused(&rt, alloc, &input, "2: TooMany")?;
+    let input = format!(in alloc; "fun f(x;\n{many}) {{ 1: return 0 }} calls")?;
+    refused(&rt, alloc, &input, "2: TooMany")
+}
+
+#[test]
+fn many_lines_and_functions(rt: HostRuntime) -> Result<(), Fail> {
+    let alloc = rt.alloc();
+    let input = format!(in alloc; "fun f() {{ {} }} calls", lines(alloc, 256)?)?;
+    accepted(&rt, alloc, &input)?;
+    let input = format!(in alloc; "fun f() {{ {} }} calls", lines(alloc, 257)?)?;
+    refused(&rt, alloc, &input, "257: TooMany")?;
+    let input = format!(in alloc; "{}calls", functions(alloc, 64)?)?;
+    accepted(&rt, alloc, &input)?;
+    let input = format!(in alloc; "{}calls", functions(alloc, 65)?)?;
+    refused(&rt, alloc, &input, "65: TooMany")
+}
+
+#[test]
+fn many_calls_and_turns(rt: HostRuntime) -> Result<(), Fail> {
+    let alloc = rt.alloc();
     let calls = repeated(alloc, "call main limit 15625 ", 256)?;
     let mut text = String::new(alloc);
     for k in 1..257_u32 {
         text.push_str(&format!(in alloc; "call {k}\nreturn 0\n")?)?;
     }
     let input = format!(in alloc; "{MAIN}{calls}")?;
-    check(&rt, alloc, &["alone"], input.as_bytes(), 0, &text)
+    check(&rt, alloc, &["alone"], input.as_bytes(), 0, &text)?;
+    let input = format!(in alloc; "{MAIN}{calls}\ncall main limit 1")?;
+    refused(&rt, alloc, &input, "3: TooMany")?;
+    let calls = repeated(alloc, "call main limit 1000000 ", 4)?;
+    let input = format!(in alloc; "{MAIN}{calls}\ncall main limit 1")?;
+    refused(&rt, alloc, &input, "3: TooMany")
 }
