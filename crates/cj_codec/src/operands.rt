@@ -1,6 +1,7 @@
 //! The words of operands, expressions and guards.
 
-ghost use Rattle.std.specs.Prelude.{◌≡◌, ◌<◌, ◌≤◌, ◌++◌, ◌∷◌, OnOk};
+ghost use Rattle.std.specs.Prelude.{◌≡◌, ◌<◌, ◌≤◌, ◌++◌, ◌∷◌, OnOk, IfErr};
+ghost use Rattle.cj_codec.specs.declared.reader.ReadError.TheVariants as read_error;
 ghost use Rattle.cj_codec.specs.Spelling.{operand_words, two_operands, expr_words, guard_words};
 ghost use Rattle.cj_codec.specs.Values.{HasOperandValue, HasTwoValues, HasExprValues, HasGuardValue};
 ghost use Rattle.cj_codec.specs.Reading.{operand_at, operands_at, expr_at, expr_by, guard_at};
@@ -116,7 +117,8 @@ impl Spelled for Guard {
 /// A register of the code or a constant.
 #[tactic(auto, unfolding(crate::specs::Reading::operand_at))]
 pub fn read_operand(words: &mut WordReader<'_>, limits: Limits) -> Result<Operand, ReadError>
-    ensures { Gives result (left words.new) (operand_at limits (left words.old)) }
+    ensures reads { Gives result (left words.new) (operand_at limits (left words.old)) }
+    ensures err { IfErr result (λ error. error ≡ read_error.NoSpelling) }
 {
     match words.next()? {
         0 => {
@@ -149,7 +151,8 @@ fn read_operands(
     words: &mut WordReader<'_>,
     limits: Limits,
 ) -> Result<(Operand, Operand), ReadError>
-    ensures { Gives result (left words.new) (operands_at limits (left words.old)) }
+    ensures reads { Gives result (left words.new) (operands_at limits (left words.old)) }
+    ensures err { IfErr result (λ error. error ≡ read_error.NoSpelling) }
 {
     let one = read_operand(words, limits)?;
     let other = read_operand(words, limits)?;
@@ -159,7 +162,8 @@ fn read_operands(
 // An expression of that kind with one operand.
 fn read_unary(kind: u64, words: &mut WordReader<'_>, limits: Limits) -> Result<Expr, ReadError>
     requires { kind < 3 }
-    ensures { Gives result (left words.new) (expr_by limits kind (left words.old)) }
+    ensures reads { Gives result (left words.new) (expr_by limits kind (left words.old)) }
+    ensures err { IfErr result (λ error. error ≡ read_error.NoSpelling) }
 {
     let a = read_operand(words, limits)?;
     Ok(match kind {
@@ -173,7 +177,8 @@ fn read_unary(kind: u64, words: &mut WordReader<'_>, limits: Limits) -> Result<E
 fn read_binary(kind: u64, words: &mut WordReader<'_>, limits: Limits) -> Result<Expr, ReadError>
     requires from { 3 ≤ kind }
     requires to { kind < 10 }
-    ensures { Gives result (left words.new) (expr_by limits kind (left words.old)) }
+    ensures reads { Gives result (left words.new) (expr_by limits kind (left words.old)) }
+    ensures err { IfErr result (λ error. error ≡ read_error.NoSpelling) }
 {
     let (a, b) = read_operands(words, limits)?;
     Ok(match kind {
@@ -190,7 +195,8 @@ fn read_binary(kind: u64, words: &mut WordReader<'_>, limits: Limits) -> Result<
 /// An expression.
 #[tactic(auto, unfolding(crate::specs::Reading::expr_at))]
 pub fn read_expr(words: &mut WordReader<'_>, limits: Limits) -> Result<Expr, ReadError>
-    ensures { Gives result (left words.new) (expr_at limits (left words.old)) }
+    ensures reads { Gives result (left words.new) (expr_at limits (left words.old)) }
+    ensures err { IfErr result (λ error. error ≡ read_error.NoSpelling) }
 {
     let kind = words.next()?;
     match kind {

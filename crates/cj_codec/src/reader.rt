@@ -42,7 +42,8 @@ pub fn remembered<T: Drop>(outcome: Result<T, NoMemory>) -> Result<T, ReadError>
 impl<'a> WordReader<'a> {
     /// The next word.
     pub fn next(&mut self) -> Result<u64, ReadError>
-        ensures { Gives result (left self.new) (word_at (left self.old)) }
+        ensures word { Gives result (left self.new) (word_at (left self.old)) }
+        ensures err { IfErr result (λ error. error ≡ read_error.NoSpelling) }
     {
         match self.rest.split_first() {
             None => Err(ReadError::NoSpelling),
@@ -57,6 +58,7 @@ impl<'a> WordReader<'a> {
     pub fn below(&mut self, bound: u32) -> Result<u32, ReadError>
         ensures word { Gives result (left self.new) (below_at bound (left self.old)) }
         ensures within { IfOk result (λ word. word < bound) }
+        ensures err { IfErr result (λ error. error ≡ read_error.NoSpelling) }
     {
         let word = self.next()?;
         if word < bound as u64 {
@@ -70,6 +72,7 @@ impl<'a> WordReader<'a> {
     pub fn at_most(&mut self, most: u32) -> Result<u32, ReadError>
         ensures word { Gives result (left self.new) (at_most_at most (left self.old)) }
         ensures within { IfOk result (λ word. word ≤ most) }
+        ensures err { IfErr result (λ error. error ≡ read_error.NoSpelling) }
     {
         let word = self.next()?;
         if word <= most as u64 {
@@ -82,7 +85,8 @@ impl<'a> WordReader<'a> {
     /// The next word, as the two's complement of a value.
     #[tactic(auto, unfolding(crate::specs::Reading::value_at))]
     pub fn value(&mut self) -> Result<i64, ReadError>
-        ensures { Gives result (left self.new) (value_at (left self.old)) }
+        ensures word { Gives result (left self.new) (value_at (left self.old)) }
+        ensures err { IfErr result (λ error. error ≡ read_error.NoSpelling) }
     {
         let word = self.next()?;
         Ok(word.cast_signed())
@@ -91,7 +95,8 @@ impl<'a> WordReader<'a> {
     /// A function's number.
     #[tactic(auto, unfolding(crate::specs::Reading::function_at))]
     pub fn function(&mut self) -> Result<FunId, ReadError>
-        ensures { Gives result (left self.new) (function_at (left self.old)) }
+        ensures word { Gives result (left self.new) (function_at (left self.old)) }
+        ensures err { IfErr result (λ error. error ≡ read_error.NoSpelling) }
     {
         let number = self.below(64)?;
         Ok(FunId(number))
@@ -100,7 +105,8 @@ impl<'a> WordReader<'a> {
     /// A label of the code.
     #[tactic(auto, unfolding(crate::specs::Reading::label_at))]
     pub fn label(&mut self, limits: Limits) -> Result<Label, ReadError>
-        ensures { Gives result (left self.new) (label_at limits (left self.old)) }
+        ensures word { Gives result (left self.new) (label_at limits (left self.old)) }
+        ensures err { IfErr result (λ error. error ≡ read_error.NoSpelling) }
     {
         let number = self.below(limits.labels)?;
         Ok(Label(number))
@@ -109,7 +115,8 @@ impl<'a> WordReader<'a> {
     /// A label of a function.
     #[tactic(auto, unfolding(crate::specs::Reading::base_label_at))]
     pub fn base_label(&mut self) -> Result<Label, ReadError>
-        ensures { Gives result (left self.new) (base_label_at (left self.old)) }
+        ensures word { Gives result (left self.new) (base_label_at (left self.old)) }
+        ensures err { IfErr result (λ error. error ≡ read_error.NoSpelling) }
     {
         let number = self.below(256)?;
         Ok(Label(number))
@@ -118,7 +125,8 @@ impl<'a> WordReader<'a> {
     /// A register of the code.
     #[tactic(auto, unfolding(crate::specs::Reading::reg_at))]
     pub fn reg(&mut self, limits: Limits) -> Result<Reg, ReadError>
-        ensures { Gives result (left self.new) (reg_at limits (left self.old)) }
+        ensures word { Gives result (left self.new) (reg_at limits (left self.old)) }
+        ensures err { IfErr result (λ error. error ≡ read_error.NoSpelling) }
     {
         let number = self.below(limits.regs)?;
         Ok(Reg(number))
@@ -127,7 +135,8 @@ impl<'a> WordReader<'a> {
     /// A register of a function.
     #[tactic(auto, unfolding(crate::specs::Reading::base_reg_at))]
     pub fn base_reg(&mut self) -> Result<Reg, ReadError>
-        ensures { Gives result (left self.new) (base_reg_at (left self.old)) }
+        ensures word { Gives result (left self.new) (base_reg_at (left self.old)) }
+        ensures err { IfErr result (λ error. error ≡ read_error.NoSpelling) }
     {
         let number = self.below(32)?;
         Ok(Reg(number))
