@@ -1,5 +1,5 @@
 -- From the readers of functions and scripts to inputs.
-use Rattle.std.proofs.Common.{◌≡◌, ◌∙◌, sym, ap, refl, ℕ, Bool, true, false, List, [], ◌∷◌, ◌++◌, Result, Ok, Err, append_assoc, inl, inr}
+use Rattle.std.proofs.Common.{◌≡◌, ◌∙◌, sym, ap, refl, ℕ, true, false, List, [], ◌∷◌, ◌++◌, Result, Ok, Err, inl, inr}
 use Rattle.cj_ir.specs.declared.language.Program.{Program}
 use Rattle.cj_ir.specs.declared.script.Input.{Input}
 use Rattle.cj_ir.specs.declared.script.Script.{Script}
@@ -11,7 +11,7 @@ use Rattle.cj_tokens.specs.declared.refusal.ParseError.TheVariants.{Refused, NoM
 use Rattle.cj_grammar.specs.Grammar.{Tree, leaves, IsSentence}
 use Rattle.cj_grammar.specs.Rules.{funs, script, input}
 use Rattle.cj_grammar.specs.Shapes.{GoesPast, HasFunctions}
-use Rattle.cj_grammar.specs.Reading.{Read, reads, Fails, Gives}
+use Rattle.cj_grammar.specs.Reading.{reads, Fails}
 use Rattle.cj_grammar.proofs.Signs.{fits_apart}
 use Rattle.cj_reader.specs.Meaning.{program_offences, program_of}
 use Rattle.cj_script.specs.Meaning.{script_offences, script_of}
@@ -19,7 +19,7 @@ use Rattle.cj_grammar.specs.Offences.{class_one, IsFirstOffence}
 use Rattle.cj_grammar.specs.Reading.{offence}
 use Rattle.cj_grammar.proofs.FirstBad.{sentence_is_good, one_bad}
 use Rattle.cj_tokens.specs.Scan.{lexemes_of}
-use Rattle.cj_text.specs.Reads.{Reads, Spells, OffendsSecond, input_offences, input_of}
+use Rattle.cj_text.specs.Reads.{Reads, input_offences, input_of}
 use Rattle.cj_text.specs.Answers.{IsParseError, IsAnswer, IsOnlyReading, Agrees}
 
 -- ---- what `reads` gives

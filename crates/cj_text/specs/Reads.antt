@@ -4,7 +4,7 @@ use Rattle.cj_ir.specs.declared.script.Input.{Input}
 use Rattle.cj_tokens.specs.Scan.{lexemes_of}
 use Rattle.cj_tokens.specs.declared.refusal.Refused.{Refused}
 use Rattle.cj_grammar.specs.Grammar.{Tree, leaves}
-use Rattle.cj_grammar.specs.Rules.{funs, script, input}
+use Rattle.cj_grammar.specs.Rules.{input}
 use Rattle.cj_grammar.specs.Offences.{IsFirstOffence}
 use Rattle.cj_reader.specs.Meaning.{program_offences, program_of}
 use Rattle.cj_script.specs.Meaning.{script_offences, script_of}
