@@ -27,21 +27,22 @@ use Rattle.cj_base.specs.Machine.{Stack, Config, config_of, Fault, FailedAt, Bad
 use Rattle.cj_base.specs.Turning.{Makes, answer_of, config_after}
 use Rattle.cj_base.specs.Run.{Begun, start_of}
 use Rattle.cj_base.specs.Fits.{IsFrameOf, IsWaitingOf, StackFits, Fits, FitsAfter}
-use Rattle.cj_base.proofs.Lists.{item_of_All, All-reverse}
+use Rattle.cj_ir.proofs.ListReads.{all_at}
+use Rattle.cj_base.proofs.Lists.{All-reverse}
 
 -- an instruction of a well-formed program names only what exists
 module _ (P : Program) (formed : IsWellFormed P) where
   in_line : (f : Function) (o : Option Line) (l : Label) (i : Instr) → IsFunctionFine P.functions f → slice_get f.code l.0 ≡ o → option_map (λ line. line.instr) o ≡ Some i → IsInstrFine P.functions (length f.regs) (length f.code) i
   in_line f None l i fine at e = cc
   in_line f (Some line) l i fine at e =
-      let one = item_of_All (λ (x : Line). IsInstrFine P.functions (length f.regs) (length f.code) x.instr) f.code l.0 line fine.instructions at in
+      let one = all_at (λ (x : Line). IsInstrFine P.functions (length f.regs) (length f.code) x.instr) f.code l.0 line fine.instructions at in
       let same : line.instr ≡ i = cc in
       subst (λ x. IsInstrFine P.functions (length f.regs) (length f.code) x) same one
 
   in_function : (f : FunId) (o : Option Function) (l : Label) (i : Instr) → slice_get P.functions f.0 ≡ o → option_map (λ line. line.instr) (option_and_then (λ g. slice_get g.code l.0) o) ≡ Some i → IsInstrFine P.functions (regs_of o) (labels_of o) i
   in_function f None l i at e = cc
   in_function f (Some g) l i at e =
-      in_line g (slice_get g.code l.0) l i (item_of_All (IsFunctionFine P.functions) P.functions f.0 g formed.functions at) refl e
+      in_line g (slice_get g.code l.0) l i (all_at (IsFunctionFine P.functions) P.functions f.0 g formed.functions at) refl e
 
   pub fine_at : (f : FunId) (l : Label) (i : Instr) → instr_at P f l ≡ Some i → IsInstrFine P.functions (reg_count P f) (label_count P f) i
   fine_at f l i e = in_function f (function_at P f) l i refl e
@@ -107,7 +108,7 @@ pub entry_fits : (P : Program) (f : FunId) (args : List ℤ) → IsWellFormed P 
 unfolding entry_frame entry_regs
 entry_fits P f args formed takes =
     let callee = takes.0 in
-    let fine = item_of_All (IsFunctionFine P.functions) P.functions f.0 callee formed.functions takes.1 in
+    let fine = all_at (IsFunctionFine P.functions) P.functions f.0 callee formed.functions takes.1 in
     let labels : label_count P f ≡ length callee.code = ap labels_of takes.1 in
     let regs : reg_count P f ≡ length callee.regs = ap regs_of takes.1 in
     let entry = fine.has_entry in

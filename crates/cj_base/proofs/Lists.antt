@@ -1,9 +1,8 @@
 -- Lists that grow at their end, seen from their end.
-use Rattle.std.proofs.Common.{◌≡◌, ◌∙◌, sym, ap, refl, ℕ, ◌+◌, ◌-◌, ◌<◌, List, [], ◌∷◌, ◌++◌, length, take, reverse, Some, None, All, arith}
+use Rattle.std.proofs.Common.{◌≡◌, ◌∙◌, sym, ap, refl, ◌+◌, ◌-◌, ◌<◌, List, [], ◌∷◌, ◌++◌, length, take, reverse, Some, None, All, arith}
 use Rattle.std.specs.Prelude.{slice_get}
 use Rattle.std.proofs.Math.Seq.{take-length}
 use Rattle.std.proofs.lemmas.List.{reverse-append, take_more}
-use Rattle.std.proofs.lemmas.List.Elements.{All-get_or}
 use Rattle.std.proofs.lemmas.List.Sorted.{All-permutation, IsPermutation-reverse}
 use Rattle.std.proofs.lemmas.Option.{slice_get_within, slice_get-get_or, get_or_from_slice_get}
 
@@ -26,12 +25,6 @@ front_last xs x e =
 pub reverse_last : {A : Type 0} (xs : List A) (x : A) → slice_get xs (length xs - 1) ≡ Some x → reverse xs ≡ x ∷ reverse (take (length xs - 1) xs)
 reverse_last xs x e =
     sym (ap reverse (front_last xs x e)) ∙ reverse-append (take (length xs - 1) xs) (x ∷ [])
-
--- an item that is read has what all have
-pub item_of_All : {A : Type 0} (P : A → Type 0) (xs : List A) (i : ℕ) (x : A) → All P xs → slice_get xs i ≡ Some x → P x
-item_of_All P xs i x all is =
-    let within = slice_get_within xs i x is in
-    rw (get_or_from_slice_get xs i x x is) at (All-get_or P xs i x within all)
 
 pub All-reverse : {A : Type 0} (P : A → Type 0) (xs : List A) → All P xs → All P (reverse xs)
 All-reverse P xs = All-permutation P xs (reverse xs) (IsPermutation-reverse xs)

@@ -14,7 +14,6 @@ use std::alloc::Global;
 /// The text of the reports: for the k-th one, from 1, the line `call k`, a line for each print, and a line for
 /// the end, which is `return v`, `fail "text"`, `fault address a`, `fault divide` or `turn limit`; with `stats`
 /// also `turns T base B fails F`. Each line ends with a line feed.
-
 pub fn text_of(
     alloc: Global,
     checked: &Checked,

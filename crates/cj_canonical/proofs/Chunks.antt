@@ -15,6 +15,7 @@ use Rattle.cj_tokens.specs.declared.terminal.Terminal.{Terminal}
 use Rattle.cj_tokens.specs.declared.terminal.Terminal.TheVariants.{Name, Number, Text, Minus}
 use Rattle.cj_tokens.proofs.Again.{blank_again, line_feed_again, name_again, keyword_again, mark_again, text_again, number_again}
 use Rattle.cj_printer.specs.Pieces.{Piece, gap_text, pieces_text, glued, blank, feed}
+use Rattle.cj_ir.proofs.Tests.{or_false}
 
 -- the bytes of pieces in front of others
 abbrev pub before : List Piece → List ℕ → List ℕ
@@ -67,18 +68,13 @@ nothing_inside line = record { reads = λ rest apart. refl }
 
 -- ---- what stands apart
 
-or_neither : (a b : Bool) → (a || b) ≡ false → (a ≡ false) × (b ≡ false)
-or_neither true b h = cc
-or_neither false true h = cc
-or_neither false false h = (refl, refl)
-
 no_letter : (rest : List ℕ) → Apart rest → begins is_letter_or_digit rest ≡ false
 no_letter [] h = refl
-no_letter (b ∷ bs) h = (or_neither (is_letter_or_digit b) (is_greater b) h).0
+no_letter (b ∷ bs) h = (or_false (is_letter_or_digit b) (is_greater b) h).0
 
 no_greater : (rest : List ℕ) → Apart rest → begins is_greater rest ≡ false
 no_greater [] h = refl
-no_greater (b ∷ bs) h = (or_neither (is_letter_or_digit b) (is_greater b) h).1
+no_greater (b ∷ bs) h = (or_false (is_letter_or_digit b) (is_greater b) h).1
 
 no_digit : (rest : List ℕ) → Apart rest → begins is_ascii_digit rest ≡ false
 no_digit [] h = refl

@@ -1,6 +1,6 @@
 -- What is known of the names, the numbers and the functions that a well-formed program's instructions use: each is
 -- printed as a token, and stands first at its own place.
-use Rattle.std.proofs.Common.{◌≡◌, ◌∙◌, sym, ap, refl, subst, ℕ, ℤ, pos, zero, suc, ◌+◌, ◌<◌, ◌≤◌, Bool, true, false, List, [], ◌∷◌, length, map, arith}
+use Rattle.std.proofs.Common.{◌≡◌, ◌∙◌, sym, ap, subst, ℕ, ℤ, pos, zero, suc, ◌+◌, ◌<◌, ◌≤◌, true, false, List, [], ◌∷◌, length, map, arith}
 use Rattle.std.specs.Prelude.{Some, slice_get, ◌&&◌, nat_lt, nat_le, decimal, not}
 use Rattle.std.specs.Ordering.{int_eq}
 use Rattle.std.specs.Str.{bytes_eq}
@@ -26,11 +26,9 @@ use Rattle.cj_reader.specs.declared.scope.Callee.{Callee}
 use Rattle.cj_printer.specs.Canonical.{text_or_none, name_of, reg_text, function_text, number_text, label_text}
 use Rattle.cj_canonical.specs.Written.{IsName, IsValue, IsOperandWritten, IsExprWritten, IsInstrWritten, IsFunctionWritten}
 use Rattle.cj_canonical.proofs.Trees.{number_at, label_number}
-use Rattle.cj_canonical.proofs.Lists.{Every, every_of_all, every_both, every_at, some_at, IsFirst, first_placed, first_position, first_of_differing, position_map}
-
-and_both : (a b : Bool) → (a && b) ≡ true → (a ≡ true) × (b ≡ true)
-and_both true b h = (refl, h)
-and_both false b h = cc
+use Rattle.cj_canonical.proofs.Lists.{Every, every_of_all, every_both, every_at, IsFirst, first_placed, first_position, first_of_differing, position_map}
+use Rattle.cj_ir.proofs.Tests.{and_true}
+use Rattle.cj_ir.proofs.ListReads.{at_index}
 
 within : (n : ℕ) → nat_le n 32 ≡ true → nat_lt 32 n ≡ false
 within n h = grind (arith, nat_tests)
@@ -38,8 +36,8 @@ within n h = grind (arith, nat_tests)
 -- a name is no longer than 32 bytes
 pub name_short : (w : List ℕ) → IsName w → nat_lt 32 (length w) ≡ false
 name_short w h =
-    let f : ((starts_with_letter w && list_all is_letter_or_digit w && nat_le (length w) 32) ≡ true) × (not (is_keyword w) ≡ true) = and_both _ _ h in
-    let g : ((starts_with_letter w && list_all is_letter_or_digit w) ≡ true) × (nat_le (length w) 32 ≡ true) = and_both _ _ f.0 in
+    let f : ((starts_with_letter w && list_all is_letter_or_digit w && nat_le (length w) 32) ≡ true) × (not (is_keyword w) ≡ true) = and_true _ _ h in
+    let g : ((starts_with_letter w && list_all is_letter_or_digit w) ≡ true) × (nat_le (length w) 32 ≡ true) = and_true _ _ f.0 in
     within (length w) g.1
 
 within_text : (n : ℕ) → nat_le n 64 ≡ true → nat_lt 64 n ≡ false
@@ -47,7 +45,7 @@ within_text n h = grind (arith, nat_tests)
 
 pub text_parts : (t : List ℕ) → is_fail_text t ≡ true → (list_all is_text_byte t ≡ true) × (nat_lt 64 (length t) ≡ false)
 text_parts t h =
-    let p : (list_all is_text_byte t ≡ true) × (nat_le (length t) 64 ≡ true) = and_both _ _ h in
+    let p : (list_all is_text_byte t ≡ true) × (nat_le (length t) 64 ≡ true) = and_true _ _ h in
     (p.0, within_text (length t) p.1)
 
 -- ---- registers
@@ -59,7 +57,7 @@ pub record RegKnown (f : Function) (r : Reg) : Type 0 where
 
 pub reg_known : (f : Function) (r : Reg) → Every IsName f.regs → AllDifferBy (λ name. name) f.regs → r.0 < length f.regs → RegKnown f r
 reg_known f r names differ h =
-    let s : (x : List ℕ) × (slice_get f.regs r.0 ≡ Some x) = some_at f.regs r.0 h in
+    let s : (x : List ℕ) × (slice_get f.regs r.0 ≡ Some x) = at_index f.regs r.0 h in
     let t : reg_text f r ≡ s.0 = ap text_or_none s.1 in
     let n : IsName s.0 = every_at IsName f.regs r.0 s.0 names s.1 in
     let p : name_place f.regs s.0 ≡ Some r.0 = first_position (λ other. bytes_eq other s.0) r.0 f.regs s.0 (first_of_differing (λ name. name) bytes_eq bytes_eq-Decides r.0 f.regs s.0 differ s.1) in
@@ -95,7 +93,7 @@ small_number n h = grind (arith, nat_tests)
 
 pub label_known : (f : Function) (l : Label) → Every (λ line. line.name ≤ 65535) f.code → AllDifferBy (λ line. line.name) f.code → l.0 < length f.code → LabelKnown f l
 label_known f l small differ h =
-    let s : (x : Line) × (slice_get f.code l.0 ≡ Some x) = some_at f.code l.0 h in
+    let s : (x : Line) × (slice_get f.code l.0 ≡ Some x) = at_index f.code l.0 h in
     let t : label_number f l ≡ s.0.name = ap number_at s.1 in
     let w : label_text f l ≡ decimal s.0.name = ap number_text s.1 in
     let n : s.0.name ≤ 65535 = every_at (λ line. line.name ≤ 65535) f.code l.0 s.0 small s.1 in

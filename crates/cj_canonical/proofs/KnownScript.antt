@@ -17,9 +17,10 @@ use Rattle.cj_printer.specs.Canonical.{text_or_none, name_of, function_text, num
 use Rattle.cj_script.specs.Meaning.{is_cond}
 use Rattle.cj_script.specs.Fitting.{FitsSetup, FitsCall}
 use Rattle.cj_canonical.specs.Written.{IsName, IsValue, IsSetupWritten, IsCallWritten}
-use Rattle.cj_canonical.proofs.Lists.{Every, every_of_all, every_at, some_at, IsFirst, first_position, first_found, first_of_differing}
+use Rattle.cj_canonical.proofs.Lists.{Every, every_of_all, every_at, IsFirst, first_position, first_found, first_of_differing}
 use Rattle.cj_canonical.proofs.Known.{FunctionKnown, InstrKnown, name_short, function_first, line_first}
 use Rattle.cj_canonical.proofs.Trees.{number_at, label_in_number}
+use Rattle.cj_ir.proofs.ListReads.{at_index}
 
 -- ---- the NAME of a function
 
@@ -62,7 +63,7 @@ pub param_known : (fs : List Function) (id : FunId) (param : ℕ) (f : Function)
 param_known fs id param f k h =
     let fine : IsFunctionFine fs f = k.known.fine in
     let within : f.params ≤ length f.regs = fine.params_are_registers in
-    let s : (x : List ℕ) × (slice_get f.regs param ≡ Some x) = some_at f.regs param (omega arith) in
+    let s : (x : List ℕ) × (slice_get f.regs param ≡ Some x) = at_index f.regs param (omega arith) in
     let t : reg_in (slice_get fs id.0) param ≡ s.0 = ap (λ (o : Option Function). reg_in o param) k.at ∙ ap text_or_none s.1 in
     let n : IsName s.0 = every_at IsName f.regs param s.0 k.known.registers s.1 in
     let first : IsFirst (λ p. bytes_eq p s.0) param (take f.params f.regs) s.0 =
@@ -112,7 +113,7 @@ setup_known fs known differ (setups.Cold id label edge) h w =
     let k : FunKnown fs id h.0 = fun_known fs id h.0 known differ h.2 in
     (h.0, h.1, k, cond_known fs id label h.0 h.1 k h.3 h.4)
 setup_known fs known differ (setups.Warm id level) h w =
-    let s : (f : Function) × (slice_get fs id.0 ≡ Some f) = some_at fs id.0 h.0 in
+    let s : (f : Function) × (slice_get fs id.0 ≡ Some f) = at_index fs id.0 h.0 in
     (s.0, fun_known fs id s.0 known differ s.1, h.1, h.2)
 
 pub record CallKnown (fs : List Function) (call : ScriptCall) : Type 0 where

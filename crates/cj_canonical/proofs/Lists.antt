@@ -1,5 +1,5 @@
 -- Items one by one, the first that passes a test, and items that differ from the earlier ones.
-use Rattle.std.proofs.Common.{◌≡◌, ◌∙◌, sym, ap, refl, subst, ℕ, zero, suc, ◌+◌, ◌<◌, Bool, true, false, cond, List, [], ◌∷◌, ◌++◌, length, map, arith, append_assoc, append-nil, All}
+use Rattle.std.proofs.Common.{◌≡◌, ◌∙◌, sym, ap, refl, subst, ℕ, zero, suc, ◌+◌, Bool, true, false, cond, List, [], ◌∷◌, ◌++◌, map, arith, append_assoc, append-nil, All}
 use Rattle.std.specs.Prelude.{Option, Some, slice_get, ◌≢◌, ⊤, position}
 use Rattle.std.specs.Bool.{Decides}
 use Rattle.std.specs.List.{list_any, position_from, find}
@@ -25,10 +25,6 @@ pub every_both : {A : Type 0} (P Q R : A → Type 0) → ((x : A) → P x → Q 
 every_both P Q R f [] h k = tt
 every_both P Q R f (x ∷ xs) h k = (f x h.0 k.0, every_both P Q R f xs h.1 k.1)
 
-pub every_append : {A : Type 0} (P : A → Type 0) (xs ys : List A) → Every P xs → Every P ys → Every P (xs ++ ys)
-every_append P [] ys h k = k
-every_append P (x ∷ xs) ys h k = (h.0, every_append P xs ys h.1 k)
-
 pub every_split : {A : Type 0} (P : A → Type 0) (xs ys : List A) → Every P (xs ++ ys) → Every P xs × Every P ys
 every_split P [] ys h = (tt, h)
 every_split P (x ∷ xs) ys h = let r : Every P xs × Every P ys = every_split P xs ys h.1 in ((h.0, r.0), r.1)
@@ -40,12 +36,6 @@ pub every_at : {A : Type 0} (P : A → Type 0) (xs : List A) (n : ℕ) (x : A) �
 every_at P [] n x h s = cc
 every_at P (y ∷ ys) zero x h s = subst P (some_same y x s) h.0
 every_at P (y ∷ ys) (suc n) x h s = every_at P ys n x h.1 s
-
--- there is an item at each place below the length
-pub some_at : {A : Type 0} (xs : List A) (n : ℕ) → n < length xs → (x : A) × (slice_get xs n ≡ Some x)
-some_at [] n h = absurd (omega arith)
-some_at (x ∷ xs) zero h = (x, refl)
-some_at (x ∷ xs) (suc n) h = some_at xs n (omega arith)
 
 -- ---- the first item that passes
 

@@ -1,19 +1,18 @@
 -- A text that is read as an input is read as nothing else, and its script fits its program.
-use Rattle.std.proofs.Common.{◌≡◌, ◌∙◌, sym, ap, refl, subst, ℕ, List, [], ◌∷◌, ◌++◌, Result, Ok, Err, true, false, inl, inr}
+use Rattle.std.proofs.Common.{◌≡◌, ◌∙◌, sym, ap, refl, subst, ℕ, List, [], ◌∷◌, ◌++◌, Result, Ok, Err, true, inl, inr}
 use Rattle.cj_ir.specs.WellFormed.{IsWellFormed}
 use Rattle.cj_ir.specs.declared.language.Program.{Program}
 use Rattle.cj_ir.specs.declared.script.Input.{Input}
 use Rattle.cj_ir.specs.declared.script.Script.{Script}
-use Rattle.cj_tokens.specs.Lexemes.{Lexeme, Is, front, is_terminal}
+use Rattle.cj_tokens.specs.Lexemes.{Lexeme, is_terminal}
 use Rattle.cj_tokens.specs.Scan.{lexemes_of}
 use Rattle.cj_tokens.specs.declared.refusal.Refused.{Refused}
-use Rattle.cj_tokens.specs.declared.terminal.Terminal.TheVariants.{Fun, Calls, End}
+use Rattle.cj_tokens.specs.declared.terminal.Terminal.TheVariants.{End}
 use Rattle.cj_grammar.specs.Grammar.{Tree, leaves}
 use Rattle.cj_grammar.specs.Reading.{reads}
 use Rattle.cj_grammar.specs.Rules.{funs, script, input}
 use Rattle.cj_grammar.specs.Shapes.{GoesPast}
 use Rattle.cj_grammar.proofs.FirstBad.{sentence_is_good}
-use Rattle.cj_grammar.proofs.Signs.{fits_apart}
 use Rattle.cj_reader.specs.Meaning.{program_offences, program_of}
 use Rattle.cj_reader.specs.Reading.{program_at}
 use Rattle.cj_reader.proofs.FineProgram as fine_program
@@ -24,6 +23,8 @@ use Rattle.cj_script.proofs.ScriptFits.{script_fits}
 use Rattle.cj_script.proofs.ScriptReads.{script_reads, script_known}
 use Rattle.cj_canonical.proofs.MeantInstructions.{none, same_two}
 use Rattle.cj_text.specs.Reads.{Reads, Spells, input_offences, input_of}
+use Rattle.cj_text.proofs.Readings.{no_function}
+use Rattle.cj_grammar.proofs.Unoffended.{none_of}
 
 -- the tokens of functions, a script, and the end
 record Parts (ts : List Lexeme) (functions : Tree funs) (lines : Tree script) (last : Lexeme) : Type 0 where
@@ -37,19 +38,10 @@ record Means (functions : Tree funs) (lines : Tree script) (i : Input) : Type 0 
   script_fine : script_offences i.checked lines ≡ []
   script : i.script ≡ script_of i.checked lines
 
--- a script begins with no function
-no_function : (t : Tree script) (ts : List Lexeme) → is_terminal Fun (front (leaves script t ++ ts)) ≡ false
-unfolding script front
-no_function (word, rest) ts = fits_apart (Is Calls) (Is Fun) word.token refl word.is
-
 past : (ts : List Lexeme) (functions : Tree funs) (lines : Tree script) (last : Lexeme) → Parts ts functions lines last → program_at ts ≡ reads (program_offences functions) (program_of functions) (leaves script lines ++ last ∷ [])
 past ts functions lines last k =
     let past : GoesPast ts (leaves script lines ++ last ∷ []) = record { tree = functions; all = k.tokens; no_more = no_function lines (last ∷ []) } in
     fine_program.program_is ts (leaves script lines ++ last ∷ []) past
-
-none_of : (es fs : List Refused) → es ++ fs ≡ [] → (es ≡ []) × (fs ≡ [])
-none_of [] fs h = (refl, h)
-none_of (e ∷ es) fs h = cc
 
 means_of : (functions : Tree funs) (lines : Tree script) (i : Input) → program_offences functions ++ script_offences (program_of functions) lines ≡ [] → i.checked ≡ program_of functions → i.script ≡ script_of (program_of functions) lines → Means functions lines i
 means_of functions lines i fine p s =

@@ -1,4 +1,5 @@
 pub mod ReadsLaws
+pub mod Unoffended
 pub mod Signs
 pub mod Eats
 pub mod Begins

@@ -1,12 +1,11 @@
 -- What readers of lists give on the tokens of a tree, part by part.
 use Rattle.std.proofs.Common.{◌≡◌, List, [], ◌∷◌, ◌++◌, length, Ok, refl, append_assoc}
-use Rattle.std.specs.Prelude.{Option, Some, None, map, flat_map, unwrap_or}
+use Rattle.std.specs.Prelude.{map, flat_map}
 use Rattle.std.proofs.lemmas.List.{append-nil}
 use Rattle.cj_tokens.specs.Lexemes.{Lexeme}
-use Rattle.cj_tokens.specs.declared.refusal.Kind.{Kind}
 use Rattle.cj_tokens.specs.declared.refusal.Refused.{Refused}
 use Rattle.cj_grammar.specs.Grammar.{◌>>=◌}
-use Rattle.cj_grammar.specs.Reading.{offence, missing, highest, each_offends, Read, reads, found, each_at}
+use Rattle.cj_grammar.specs.Reading.{each_offends, Read, reads, each_at}
 
 -- a part, and what follows it
 pub reads_then : {X Y : Type 0} (es fs : List Refused) (x : X) (y : Y) (ts us : List Lexeme) (f : X × List Lexeme → Read Y) → f (x, ts) ≡ reads fs y us → (reads es x ts >>= f) ≡ reads (es ++ fs) y us
@@ -17,24 +16,6 @@ reads_then (e ∷ es) fs x y ts us f h = refl
 pub reads_last : {X Y : Type 0} (es : List Refused) (x : X) (y : Y) (ts us : List Lexeme) (f : X × List Lexeme → Read Y) → f (x, ts) ≡ Ok (y, us) → (reads es x ts >>= f) ≡ reads es y us
 reads_last [] x y ts us f h = h
 reads_last (e ∷ es) x y ts us f h = refl
-
--- Where something is looked up, what follows reads with the value that was found, or with any other one.
-pub found_then : {X Y : Type 0} (o : Option X) (other : X) (t : Lexeme) (kind : Kind) (fs : List Refused) (y : Y) (us : List Lexeme) (f : X → Read Y) → f (unwrap_or o other) ≡ reads fs y us → (found o (offence t kind) >>= f) ≡ reads (missing o t kind ++ fs) y us
-found_then None other t kind fs y us f h = refl
-found_then (Some x) other t kind fs y us f h = h
-
-pub found_last : {X Y : Type 0} (o : Option X) (other : X) (t : Lexeme) (kind : Kind) (y : Y) (us : List Lexeme) (f : X → Read Y) → f (unwrap_or o other) ≡ Ok (y, us) → (found o (offence t kind) >>= f) ≡ reads (missing o t kind) y us
-found_last None other t kind y us f h = refl
-found_last (Some x) other t kind y us f h = h
-
--- the first offence alone counts
-pub highest_reads : {X : Type 0} (es : List Refused) (x : X) (ts : List Lexeme) → reads (highest es) x ts ≡ reads es x ts
-highest_reads [] x ts = refl
-highest_reads (e ∷ es) x ts = refl
-
-pub highest_then : {X : Type 0} (es fs : List Refused) (x : X) (ts : List Lexeme) → reads (highest es ++ fs) x ts ≡ reads (es ++ fs) x ts
-highest_then [] fs x ts = refl
-highest_then (e ∷ es) fs x ts = refl
 
 -- Items that are read one after another, where each reads alike whatever stands behind it.
 pub each_reads : {T X : Type 0} (one : List X → List Lexeme → Read X) (spelled : T → List Lexeme) (offends : List X → T → List Refused) (means : T → X) (earlier : List X) (items : List T) (ts : List Lexeme)

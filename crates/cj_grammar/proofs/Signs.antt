@@ -1,6 +1,6 @@
 -- Which tokens fit which signs.
 use Rattle.std.proofs.Common.{◌≡◌, ℕ, Bool, true, false, ◌⊎◌, List, [], ◌∷◌, ◌++◌, refl, sym, inl, inr, subst, pos}
-use Rattle.std.specs.Prelude.{nat_eq, not, ◌&&◌, ◌||◌}
+use Rattle.std.specs.Prelude.{nat_eq, not, ◌||◌}
 use Rattle.std.specs.List.{list_any}
 use Rattle.std.specs.Str.{bytes_eq}
 use Rattle.std.proofs.lemmas.Bool.{eqb-true, eq-eqb}
@@ -8,14 +8,11 @@ use Rattle.std.proofs.lemmas.Slice.Eq.{bytes_eq-Decides}
 use Rattle.cj_tokens.specs.Lexemes.{Lexeme, Sign, Is, Spelled, number_of, is_terminal, fits, clash}
 use Rattle.cj_tokens.specs.declared.terminal.Terminal.TheVariants.{Name}
 use Rattle.cj_grammar.specs.Grammar.{has, are_apart}
+pub use Rattle.cj_ir.proofs.Tests.{and_true, or_false}
 
 pub known_bool : (b : Bool) → (b ≡ true) ⊎ (b ≡ false)
 known_bool true = inl refl
 known_bool false = inr refl
-
-pub and_true : (a b : Bool) → (a && b) ≡ true → (a ≡ true) × (b ≡ true)
-and_true true b h = (refl, h)
-and_true false b h = cc
 
 pub not_true : (a : Bool) → not a ≡ true → a ≡ false
 not_true true h = cc
@@ -28,10 +25,6 @@ or_left false b h = cc
 pub or_right : (a b : Bool) → b ≡ true → (a || b) ≡ true
 or_right true b h = refl
 or_right false b h = h
-
-pub or_false : (a b : Bool) → (a || b) ≡ false → (a ≡ false) × (b ≡ false)
-or_false true b h = cc
-or_false false b h = (refl, h)
 
 -- a token of one terminal is of no other one
 one_terminal : (j k : ℕ) (n : ℕ) → nat_eq j k ≡ false → nat_eq n j ≡ true → nat_eq n k ≡ false

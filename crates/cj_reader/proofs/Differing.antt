@@ -1,7 +1,6 @@
 -- Items that differ, told one after the other.
-use Rattle.std.proofs.Common.{◌≡◌, subst, sym, ℕ, ◌<◌, List, [], ◌∷◌, ◌++◌, length, get_or, All, append-nil, append_assoc, arith}
+use Rattle.std.proofs.Common.{subst, sym, List, [], ◌∷◌, ◌++◌, All, append-nil, append_assoc, arith}
 use Rattle.std.specs.Prelude.{◌≢◌, ⊤}
-use Rattle.std.specs.List.{AllPairs}
 use Rattle.std.proofs.lemmas.List.Elements.{All-get_or}
 use Rattle.std.proofs.lemmas.List.Quantifiers.{all_pairs_push}
 use Rattle.cj_ir.specs.WellFormed.{AllDifferBy}

@@ -1,30 +1,9 @@
 -- What holds where there are no offences.
-use Rattle.std.proofs.Common.{◌≡◌, ℕ, ◌+◌, ◌<◌, List, [], ◌∷◌, ◌++◌, length, Bool, true, false, cond, Option, Some, None, refl, arith, All, ◌||◌, not}
+use Rattle.std.proofs.Common.{◌≡◌, ℕ, ◌+◌, ◌<◌, List, [], ◌∷◌, length, Bool, true, false, cond, Some, refl, arith, not}
 use Rattle.std.specs.Prelude.{position, nat_le, ◌==◌}
-use Rattle.std.specs.Bool.{Decides}
-use Rattle.std.specs.List.{list_any, position_from}
+use Rattle.std.specs.List.{position_from}
 use Rattle.std.proofs.lemmas.Bool.Decides.{nat_tests}
 use Rattle.std.proofs.lemmas.List.Quantifiers.{position-Some}
-use Rattle.std.proofs.lemmas.List.Elements.{All-nil, All-cons}
-use Rattle.cj_tokens.specs.Lexemes.{Lexeme}
-use Rattle.cj_tokens.specs.declared.refusal.Kind.{Kind}
-use Rattle.cj_grammar.specs.Reading.{offends_if, missing}
-
-pub nil_parts : {A : Type 0} (xs ys : List A) → xs ++ ys ≡ [] → (xs ≡ []) × (ys ≡ [])
-nil_parts [] ys h = (refl, h)
-nil_parts (x ∷ xs) ys h = cc
-
-pub unoffended : (b : Bool) (t : Lexeme) (kind : Kind) → offends_if b t kind ≡ [] → b ≡ false
-unoffended true t kind h = cc
-unoffended false t kind h = refl
-
-pub present : {A : Type 0} (o : Option A) (t : Lexeme) (kind : Kind) → missing o t kind ≡ [] → (a : A) × (o ≡ Some a)
-present None t kind h = cc
-present (Some a) t kind h = (a, refl)
-
-pub neither : (a b : Bool) → (a || b) ≡ false → (a ≡ false) × (b ≡ false)
-neither true b h = cc
-neither false b h = (refl, h)
 
 pub negated : (b : Bool) → not b ≡ false → b ≡ true
 negated true h = refl
@@ -49,11 +28,3 @@ from_within test i (x ∷ xs) place h =
       | true ↦ (λ e. let same : i ≡ place = cc in omega arith)
       | false ↦ (λ e. let rest : place < (i + 1) + length xs = from_within test (i + 1) xs place e in omega arith)
     ] h
-
--- no item is one, where no test passes
-pub none_of : {A : Type 0} (test : A → Bool) (P : A → Type 0) → ((x : A) → Decides (test x) (P x)) → (xs : List A) → list_any test xs ≡ false → All (λ x. P x → ⊥) xs
-none_of test P decides [] e = All-nil (λ y. P y → ⊥)
-none_of test P decides (x ∷ xs) e =
-    let parts : (test x ≡ false) × (list_any test xs ≡ false) = neither (test x) (list_any test xs) e in
-    let here : P x → ⊥ = λ p. let t : test x ≡ true = (decides x).1 p in cc in
-    All-cons (λ y. P y → ⊥) x xs here (none_of test P decides xs parts.1)

@@ -22,7 +22,9 @@ use Rattle.cj_reader.specs.Operands.{is_line_number}
 use Rattle.cj_reader.specs.Instructions.{instr_offences}
 use Rattle.cj_reader.specs.Functions.{name_offences, names_offences, texts_of, function_name, param_tokens, other_tokens, head_offences, number_offences, line_number, line_offences, natural, line_of, numbers_of, lines_offences, lines_of, function_scope, function_offences, function_of}
 use Rattle.cj_reader.proofs.LineLaws.{number}
-use Rattle.cj_reader.proofs.Fine.{nil_parts, unoffended, negated, neither, below, some_items, from_within}
+use Rattle.cj_ir.proofs.Tests.{or_false}
+use Rattle.cj_grammar.proofs.Unoffended.{none_of, none_if}
+use Rattle.cj_reader.proofs.Fine.{negated, below, some_items, from_within}
 use Rattle.cj_reader.proofs.FineParts.{Bounded, Called, instr_fine}
 use Rattle.cj_reader.proofs.FineNames.{names_few, names_new, new_and_new}
 
@@ -47,7 +49,7 @@ name_is s (n, (colon, i)) = refl
 new_number : (s : Scope) (x : ℤ) (done : List (Tree line)) → is_line_number x ≡ true → All Numbered done → list_any (λ other. int_eq other x) (map number done) ≡ false → All (λ other. other.name ≢ natural x) (map (line_of s) done)
 new_number s x [] r all h = All-nil (λ (other : Line). other.name ≢ natural x)
 new_number s x (d ∷ done) r all h =
-    let p : (int_eq (number d) x ≡ false) × (list_any (λ other. int_eq other x) (map number done) ≡ false) = neither (int_eq (number d) x) (list_any (λ other. int_eq other x) (map number done)) h in
+    let p : (int_eq (number d) x ≡ false) × (list_any (λ other. int_eq other x) (map number done) ≡ false) = or_false (int_eq (number d) x) (list_any (λ other. int_eq other x) (map number done)) h in
     let here : (line_of s d).name ≢ natural x = λ e.
     let same : number d ≡ x = natural_same (number d) x (All-head Numbered d done all) r (sym (name_is s d) ∙ e) in
     let t : int_eq (number d) x ≡ true = (Decides-int_eq (number d) x).1 same in cc in
@@ -61,12 +63,12 @@ record NumberFine (earlier : List ℤ) (t : Lexeme) : Type 0 where
 number_fine : (earlier : List ℤ) (t : Lexeme) → number_offences earlier t ≡ [] → NumberFine earlier t
 number_fine earlier t h =
     let rest : List Refused = offends_if (not (is_line_number t.number)) t Range ++ offends_if (list_any (λ other. int_eq other t.number) earlier) t LabelTwice in
-    let p : (offends_if (nat_le 256 (length earlier)) t TooMany ≡ []) × (rest ≡ []) = nil_parts (offends_if (nat_le 256 (length earlier)) t TooMany) rest h in
-    let q : (offends_if (not (is_line_number t.number)) t Range ≡ []) × (offends_if (list_any (λ other. int_eq other t.number) earlier) t LabelTwice ≡ []) = nil_parts (offends_if (not (is_line_number t.number)) t Range) (offends_if (list_any (λ other. int_eq other t.number) earlier) t LabelTwice) p.1 in
+    let p : (offends_if (nat_le 256 (length earlier)) t TooMany ≡ []) × (rest ≡ []) = none_of (offends_if (nat_le 256 (length earlier)) t TooMany) rest h in
+    let q : (offends_if (not (is_line_number t.number)) t Range ≡ []) × (offends_if (list_any (λ other. int_eq other t.number) earlier) t LabelTwice ≡ []) = none_of (offends_if (not (is_line_number t.number)) t Range) (offends_if (list_any (λ other. int_eq other t.number) earlier) t LabelTwice) p.1 in
     record {
-      few = below 256 (length earlier) (unoffended (nat_le 256 (length earlier)) t TooMany p.0);
-      small = negated (is_line_number t.number) (unoffended (not (is_line_number t.number)) t Range q.0);
-      new = unoffended (list_any (λ other. int_eq other t.number) earlier) t LabelTwice q.1;
+      few = below 256 (length earlier) (none_if (nat_le 256 (length earlier)) t TooMany p.0);
+      small = negated (is_line_number t.number) (none_if (not (is_line_number t.number)) t Range q.0);
+      new = none_if (list_any (λ other. int_eq other t.number) earlier) t LabelTwice q.1;
     }
 
 record LinesFine (s : Scope) (functions : List Function) (count : ℕ) (done ts : List (Tree line)) : Type 0 where
@@ -93,8 +95,8 @@ module _ (s : Scope) (functions : List Function) (count : ℕ) (b : Bounded s co
   lines_fine done ((n, (colon, i)) ∷ ts) all h =
       let t : Tree line = (n, (colon, i)) in
       let os : List Refused = each_offends (line_offences s) number (map number done ++ n.token.number ∷ []) ts in
-      let p : (number_offences (map number done) n.token ++ instr_offences s i ≡ []) × (os ≡ []) = nil_parts (number_offences (map number done) n.token ++ instr_offences s i) os h in
-      let q : (number_offences (map number done) n.token ≡ []) × (instr_offences s i ≡ []) = nil_parts (number_offences (map number done) n.token) (instr_offences s i) p.0 in
+      let p : (number_offences (map number done) n.token ++ instr_offences s i ≡ []) × (os ≡ []) = none_of (number_offences (map number done) n.token ++ instr_offences s i) os h in
+      let q : (number_offences (map number done) n.token ≡ []) × (instr_offences s i ≡ []) = none_of (number_offences (map number done) n.token) (instr_offences s i) p.0 in
       let f : NumberFine (map number done) n.token = number_fine (map number done) n.token q.0 in
       let all' : All Numbered (done ++ t ∷ []) = All-append Numbered done (t ∷ []) all (All-cons Numbered t [] f.small (All-nil Numbered)) in
       let again : each_offends (line_offences s) number (map number (done ++ t ∷ [])) ts ≡ [] = ap (λ ns. each_offends (line_offences s) number ns ts) (map-append number done (t ∷ [])) ∙ p.1 in
@@ -124,10 +126,10 @@ function_fine heads functions earlier (front, (left, (body, right))) known h =
     let os : List Lexeme = other_tokens front in
     let names : List Refused = names_offences 8 [] ps ++ names_offences 32 (texts_of ps) os in
     let entry : List Refused = offends_if (length (numbers_of body) == 0) right.token NoEntry in
-    let p : (head_offences earlier front ≡ []) × (lines_offences s body ++ entry ≡ []) = nil_parts (head_offences earlier front) (lines_offences s body ++ entry) h in
-    let q : (name_offences 64 earlier (function_name front) ≡ []) × (names ≡ []) = nil_parts (name_offences 64 earlier (function_name front)) names p.0 in
-    let r : (names_offences 8 [] ps ≡ []) × (names_offences 32 (texts_of ps) os ≡ []) = nil_parts (names_offences 8 [] ps) (names_offences 32 (texts_of ps) os) q.1 in
-    let l : (lines_offences s body ≡ []) × (entry ≡ []) = nil_parts (lines_offences s body) entry p.1 in
+    let p : (head_offences earlier front ≡ []) × (lines_offences s body ++ entry ≡ []) = none_of (head_offences earlier front) (lines_offences s body ++ entry) h in
+    let q : (name_offences 64 earlier (function_name front) ≡ []) × (names ≡ []) = none_of (name_offences 64 earlier (function_name front)) names p.0 in
+    let r : (names_offences 8 [] ps ≡ []) × (names_offences 32 (texts_of ps) os ≡ []) = none_of (names_offences 8 [] ps) (names_offences 32 (texts_of ps) os) q.1 in
+    let l : (lines_offences s body ≡ []) × (entry ≡ []) = none_of (lines_offences s body) entry p.1 in
     let counted : length (numbers_of body) ≡ length (map (line_of s) body) = length-map body number ∙ sym (length-map body (line_of s)) in
     let b : Bounded s (length (map (line_of s) body)) = subst (λ (n : ℕ). Bounded s n) counted (bounded heads front body) in
     let f : LinesFine s functions (length (map (line_of s) body)) [] body = lines_fine s functions (length (map (line_of s) body)) b known [] body (All-nil Numbered) l.0 in
@@ -141,7 +143,7 @@ function_fine heads functions earlier (front, (left, (body, right))) known h =
     let within : length (texts_of ps) ≤ 32 = omega arith in
     let all_few : length (texts_of ps) + length os ≤ 32 = names_few 32 (texts_of ps) os r.1 within in
     let regs_count : length (texts_of ps ++ texts_of os) ≡ length (texts_of ps) + length (texts_of os) = length-append (texts_of ps) (texts_of os) in
-    let filled : 0 < length (numbers_of body) = some_items (numbers_of body) (unoffended (length (numbers_of body) == 0) right.token NoEntry l.1) in
+    let filled : 0 < length (numbers_of body) = some_items (numbers_of body) (none_if (length (numbers_of body) == 0) right.token NoEntry l.1) in
     let numbers_count : length (numbers_of body) ≡ length body = length-map body number in
     record {
       few_params = omega arith;

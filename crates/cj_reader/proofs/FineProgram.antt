@@ -22,7 +22,8 @@ use Rattle.cj_reader.specs.Functions.{name_offences, function_name, head_of, hea
 use Rattle.cj_reader.specs.Meaning.{all_functions, heads_of, program_offences, program_of}
 use Rattle.cj_reader.specs.Reading.{program_at}
 use Rattle.cj_reader.proofs.ProgramLaws.{key, program_reads}
-use Rattle.cj_reader.proofs.Fine.{nil_parts, neither}
+use Rattle.cj_ir.proofs.Tests.{or_false}
+use Rattle.cj_grammar.proofs.Unoffended.{none_of}
 use Rattle.cj_reader.proofs.FineNames.{name_few, name_new}
 use Rattle.cj_reader.proofs.FineFunctions.{function_fine}
 
@@ -79,12 +80,12 @@ known_all heads ts e name callee h =
 name_of_head : (heads : List Head) (earlier : List (List ℕ)) (t : Tree fun) → function_offences heads earlier t ≡ [] → name_offences 64 earlier (function_name (function_head t)) ≡ []
 unfolding fun function_offences function_head
 name_of_head heads earlier (front, (left, (body, right))) h =
-    (nil_parts (name_offences 64 earlier (function_name front)) _ (nil_parts (head_offences earlier front) _ h).0).0
+    (none_of (name_offences 64 earlier (function_name front)) _ (none_of (head_offences earlier front) _ h).0).0
 
 new_name : (heads : List Head) (name : List ℕ) (done : List (Tree fun)) → list_any (λ other. bytes_eq other name) (map key done) ≡ false → All (λ other. other.name ≢ name) (map (function_of heads) done)
 new_name heads name [] h = All-nil (λ (other : Function). other.name ≢ name)
 new_name heads name (d ∷ done) h =
-    let p : (bytes_eq (key d) name ≡ false) × (list_any (λ other. bytes_eq other name) (map key done) ≡ false) = neither (bytes_eq (key d) name) (list_any (λ other. bytes_eq other name) (map key done)) h in
+    let p : (bytes_eq (key d) name ≡ false) × (list_any (λ other. bytes_eq other name) (map key done) ≡ false) = or_false (bytes_eq (key d) name) (list_any (λ other. bytes_eq other name) (map key done)) h in
     let here : (function_of heads d).name ≢ name = λ e. let t : bytes_eq (key d) name ≡ true = (bytes_eq-Decides (key d) name).1 (sym (name_same heads d) ∙ e) in cc in
     All-cons (λ (other : Function). other.name ≢ name) (function_of heads d) (map (function_of heads) done) here (new_name heads name done p.1)
 
@@ -101,7 +102,7 @@ functions_fine heads functions known done [] h = record {
 }
 functions_fine heads functions known done (t ∷ ts) h =
     let os : List Refused = each_offends (function_offences heads) key (map key done ++ key t ∷ []) ts in
-    let p : (function_offences heads (map key done) t ≡ []) × (os ≡ []) = nil_parts (function_offences heads (map key done) t) os h in
+    let p : (function_offences heads (map key done) t ≡ []) × (os ≡ []) = none_of (function_offences heads (map key done) t) os h in
     let n : name_offences 64 (map key done) (function_name (function_head t)) ≡ [] = name_of_head heads (map key done) t p.0 in
     let again : each_offends (function_offences heads) key (map key (done ++ t ∷ [])) ts ≡ [] = ap (λ ns. each_offends (function_offences heads) key ns ts) (map-append key done (t ∷ [])) ∙ p.1 in
     let rest : FunctionsFine heads functions (done ++ t ∷ []) ts = functions_fine heads functions known (done ++ t ∷ []) ts again in

@@ -1,5 +1,5 @@
 -- What the offences of a function's NAME are, where its place is known.
-use Rattle.std.proofs.Common.{◌≡◌, ℕ, zero, suc, ◌<◌, ◌≤◌, Bool, true, false, cond, List, [], ◌∷◌, ◌++◌, length, Ok, Err, refl, ap, sym, ◌∙◌, arith}
+use Rattle.std.proofs.Common.{◌≡◌, ℕ, ◌<◌, ◌≤◌, Bool, true, false, cond, List, [], ◌∷◌, ◌++◌, length, Ok, Err, refl, ap, sym, ◌∙◌, arith}
 use Rattle.std.specs.Prelude.{Some, None, position, slice_get, nat_lt, ◌==◌}
 use Rattle.std.specs.List.{find, position_or_len}
 use Rattle.std.proofs.lemmas.Bool.Decides.{nat_tests}
@@ -15,15 +15,12 @@ use Rattle.cj_tokens.specs.declared.refusal.Refused.{Refused}
 use Rattle.cj_grammar.specs.Reading.{offence, highest}
 use Rattle.cj_script.specs.Meaning.{is_named, function_named, id_named, long_name, function_offences, callee_offences, other_count, is_numbered, is_cond, label_offences, label_of}
 use Rattle.cj_script.specs.Reading.{judged}
+use Rattle.cj_ir.proofs.ListReads.{at_index}
 
 -- the first offence is no value
 judged_ok : {X : Type 0} (es : List Refused) (x y : X) → judged es x ≡ Ok y → (es ≡ []) × (x ≡ y)
 judged_ok [] x y h = let e : x ≡ y = cc in (refl, e)
 judged_ok (e ∷ es) x y h = cc
-
-judged_err : {X : Type 0} (es : List Refused) (x : X) (e : Refused) → judged es x ≡ Err e → highest es ≡ e ∷ []
-judged_err [] x e h = cc
-judged_err (f ∷ es) x e h = let g : f ≡ e = cc in ap (λ z. z ∷ []) g
 
 place_chosen : (b : Bool) (m k : ℕ) → cond b (Some m) None ≡ Some k → m ≡ k
 place_chosen true m k h = cc
@@ -46,16 +43,11 @@ find_none p xs h =
 short : (t : Lexeme) → length t.text ≤ 32 → long_name t ≡ []
 short t h = let e : nat_lt 32 (length t.text) ≡ false = grind (arith, nat_tests) in rw e refl
 
-some_at : {X : Type 0} (xs : List X) (k : ℕ) → k < length xs → (x : X) × (slice_get xs k ≡ Some x)
-some_at [] k h = absurd (omega arith)
-some_at (x ∷ xs) zero h = (x, refl)
-some_at (x ∷ xs) (suc k) h = some_at xs k (omega arith)
-
 -- The NAME of a function that is there has no offence.
 pub named_judged : (functions : List Function) (name : Lexeme) (k : ℕ) → length name.text ≤ 32 → k < length functions → position (is_named name) functions ≡ Some k → judged (function_offences functions name) (id_named functions name) ≡ Ok (let id : FunId = record { 0 = k } in id)
 unfolding function_offences
 named_judged functions name k h w p =
-    let s : (f : Function) × (slice_get functions k ≡ Some f) = some_at functions k w in
+    let s : (f : Function) × (slice_get functions k ≡ Some f) = at_index functions k w in
     let e : find (is_named name) functions ≡ Some s.0 = find_placed (is_named name) functions k p ∙ s.1 in
     let l : long_name name ≡ [] = short name h in
     rw (l, e, p) refl

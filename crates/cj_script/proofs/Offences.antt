@@ -9,31 +9,19 @@ use Rattle.cj_ir.specs.WellFormed.{Takes}
 use Rattle.cj_ir.specs.declared.language.Function.{Function}
 use Rattle.cj_ir.specs.declared.language.Line.{Line}
 use Rattle.cj_tokens.specs.Lexemes.{Lexeme}
-use Rattle.cj_tokens.specs.declared.refusal.Kind.{Kind}
 use Rattle.cj_tokens.specs.declared.refusal.Kind.TheVariants.{TooMany, Range, NoFunction, Arguments, NoRegister, NoLabel, NotCond}
 use Rattle.cj_tokens.specs.declared.refusal.Refused.{Refused}
 use Rattle.cj_grammar.specs.Reading.{offends_if, missing, highest}
 use Rattle.cj_script.specs.Fitting.{HasParameter, HasCond}
 use Rattle.cj_script.specs.Meaning.{is_named, function_named, id_named, parameter_named, is_numbered, line_numbered, is_cond, long_name, out_of_range, function_offences, other_count, callee_offences, limit_offences, parameter_offences, parameter_of, no_cond, label_offences, label_of}
 use Rattle.cj_script.proofs.Naming.{find_placed, find_none}
+pub use Rattle.cj_grammar.proofs.Unoffended.{none_of, none_if, none_missing}
 
 -- ---- lists of offences
-
-pub none_of : (es fs : List Refused) → es ++ fs ≡ [] → (es ≡ []) × (fs ≡ [])
-none_of [] fs h = (refl, h)
-none_of (e ∷ es) fs h = cc
 
 pub none_highest : (es : List Refused) → highest es ≡ [] → es ≡ []
 none_highest [] h = refl
 none_highest (e ∷ es) h = cc
-
-none_if : (b : Bool) (t : Lexeme) (kind : Kind) → offends_if b t kind ≡ [] → b ≡ false
-none_if true t kind h = cc
-none_if false t kind h = refl
-
-none_missing : {X : Type 0} (o : Option X) (t : Lexeme) (kind : Kind) → missing o t kind ≡ [] → (x : X) × (o ≡ Some x)
-none_missing None t kind h = cc
-none_missing (Some x) t kind h = (x, refl)
 
 -- ---- numbers
 

@@ -1,5 +1,5 @@
 -- Readers of many items, turn by turn.
-use Rattle.std.proofs.Common.{◌≡◌, ℕ, zero, suc, ◌<◌, ◌≤◌, Bool, true, false, cond, ◌⊎◌, inl, inr, List, [], ◌∷◌, ◌++◌, length, Result, Ok, Err, refl, ap, sym, ◌∙◌, append_assoc, arith}
+use Rattle.std.proofs.Common.{◌≡◌, ℕ, zero, suc, ◌<◌, ◌≤◌, Bool, true, false, cond, ◌⊎◌, inl, inr, List, [], ◌∷◌, ◌++◌, length, Ok, Err, refl, ap, sym, ◌∙◌, append_assoc, arith}
 use Rattle.std.specs.Prelude.{map, flat_map}
 use Rattle.std.proofs.lemmas.List.{append-nil}
 use Rattle.cj_tokens.specs.Lexemes.{Lexeme, front, behind, is_terminal}
@@ -9,6 +9,7 @@ use Rattle.cj_tokens.specs.declared.refusal.Refused.{Refused}
 use Rattle.cj_grammar.specs.Grammar.{◌>>=◌}
 use Rattle.cj_grammar.specs.Reading.{Read, reads, each_offends}
 use Rattle.cj_script.specs.Reading.{judged, numbers_at, behind_numbers, many_at, all_at}
+use Rattle.cj_grammar.proofs.Eats.{known}
 
 -- ---- lengths
 
@@ -46,10 +47,6 @@ number_shorter [] h = cc
 number_shorter (t ∷ ts) h = omega arith
 
 -- ---- items one after another
-
-known : {A E : Type 0} (r : Result A E) → ((x : A) × (r ≡ Ok x)) ⊎ ((e : E) × (r ≡ Err e))
-known (Ok x) = inl (x, refl)
-known (Err e) = inr (e, refl)
 
 known_bool : (b : Bool) → (b ≡ true) ⊎ (b ≡ false)
 known_bool true = inl refl

@@ -16,6 +16,7 @@ use Rattle.cj_tokens.specs.Words.{is_free_word, is_well}
 use Rattle.cj_tokens.specs.declared.terminal.Terminal.TheVariants.{End, Text, Number, BadNumber, BadCharacter}
 use Rattle.cj_tokens.proofs.Skips.{passed, next_at}
 use Rattle.cj_tokens.proofs.Tables.{is_other, word_other, mark_other, name_is_free}
+use Rattle.cj_ir.proofs.Tests.{and_true, not_or}
 
 -- ---- what is no end, no name and no text
 
@@ -46,7 +47,7 @@ not_end b bs = go (is_letter b) (begins_number b bs) (fits_i64 (b ∷ bs)) (is_q
 
 -- ---- the bytes of names and texts
 
-letter_no_quote : (b : ℕ) → is_letter b ≡ true → is_quote b ≡ false
+pub letter_no_quote : (b : ℕ) → is_letter b ≡ true → is_quote b ≡ false
 letter_no_quote b h = grind (arith, nat_tests)
 
 run_passes : (p : ℕ → Bool) (bs : List ℕ) → list_all p (take (prefix_len p bs) bs) ≡ true
@@ -115,10 +116,6 @@ pick : (bs : List ℕ) (c : Bool) (x y : ℕ) → (c ≡ true → Sized bs x) �
 pick bs true x y f g = f refl
 pick bs false x y f g = g refl
 
-and_true : (a b : Bool) → (a && b) ≡ true → (a ≡ true) × (b ≡ true)
-and_true true b h = (refl, h)
-and_true false b h = cc
-
 sized_run : (p : ℕ → Bool) (bs : List ℕ) → Sized bs (suc (prefix_len p bs))
 unfolding Sized
 sized_run p bs = (prefix_len p bs, refl, prefix_len-le-length p bs)
@@ -182,16 +179,11 @@ well_scanned line (b ∷ bs) = go (is_letter b) (is_quote b) refl refl
 
 -- ---- what stands next is that token, and what is behind it
 
-or_false : (a b : Bool) → not (a || b) ≡ true → (a ≡ false) × (b ≡ false)
-or_false true b h = cc
-or_false false true h = cc
-or_false false false h = (refl, refl)
-
 pub token_next : (line i b : ℕ) (bs : List ℕ) → is_start b ≡ true → items 0 line i (b ∷ bs) ≡ item_of line i (b ∷ bs) (size_of (b ∷ bs)) ∷ items 0 line (i + size_of (b ∷ bs)) (drop (size_of (b ∷ bs)) (b ∷ bs))
 unfolding items
 token_next line i b bs t =
-    let p : (is_line_feed b ≡ false) × ((is_blank b || is_hash b) ≡ false) = or_false (is_line_feed b) (is_blank b || is_hash b) t in
-    let q : (is_blank b ≡ false) × (is_hash b ≡ false) = or_false (is_blank b) (is_hash b) (ap not p.1) in
+    let p : (is_line_feed b ≡ false) × ((is_blank b || is_hash b) ≡ false) = not_or (is_line_feed b) (is_blank b || is_hash b) t in
+    let q : (is_blank b ≡ false) × (is_hash b ≡ false) = not_or (is_blank b) (is_hash b) (ap not p.1) in
     let k : (k : ℕ) × (size_of (b ∷ bs) ≡ suc k) × (k ≤ length bs) = sized b bs in
     let m : size_of (b ∷ bs) - 1 ≡ k.0 = rw k.1 (omega arith) in
     let f : items k.0 line (i + 1) bs ≡ items 0 line (i + 1 + k.0) (drop k.0 bs) = passed k.0 line (i + 1) bs k.2 in

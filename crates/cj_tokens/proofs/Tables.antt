@@ -1,6 +1,6 @@
 -- What is looked up in the tables of keywords and marks.
 use Rattle.std.proofs.Common.{◌≡◌, ℕ, Bool, true, false, cond, List, [], ◌∷◌, refl}
-use Rattle.std.specs.Prelude.{◌&&◌, ◌||◌, not, nat_eq}
+use Rattle.std.specs.Prelude.{◌||◌, not, nat_eq}
 use Rattle.std.specs.List.{list_all, list_any}
 use Rattle.std.specs.Str.{bytes_eq}
 use Rattle.cj_ir.specs.Texts.{is_keyword}
@@ -8,6 +8,7 @@ use Rattle.cj_tokens.specs.Lexemes.{number_of}
 use Rattle.cj_tokens.specs.Spellings.{lookup, keyword_table, mark_table, word_terminal, mark_terminal}
 use Rattle.cj_tokens.specs.declared.terminal.Terminal.{Terminal}
 use Rattle.cj_tokens.specs.declared.terminal.Terminal.TheVariants.{Name, BadCharacter}
+use Rattle.cj_ir.proofs.Tests.{and_true}
 
 -- the terminal has another number
 abbrev pub is_other : ℕ → Terminal → Bool
@@ -19,14 +20,10 @@ Table = List (List ℕ × Terminal)
 abbrev pub lacks : ℕ → Table → Bool
 lacks k table = list_all (λ e. is_other k e.1) table
 
-both : (a b : Bool) → (a && b) ≡ true → (a ≡ true) × (b ≡ true)
-both true b h = (refl, h)
-both false b h = cc
-
 pub lookup_other : (k : ℕ) (table : Table) (other : Terminal) (t : List ℕ) → lacks k table ≡ true → is_other k other ≡ true → is_other k (lookup table other t) ≡ true
 lookup_other k [] other t l o = o
 lookup_other k (e ∷ es) other t l o =
-    let p : (is_other k e.1 ≡ true) × (lacks k es ≡ true) = both (is_other k e.1) (lacks k es) l in
+    let p : (is_other k e.1 ≡ true) × (lacks k es ≡ true) = and_true (is_other k e.1) (lacks k es) l in
     let i : is_other k (lookup es other t) ≡ true = lookup_other k es other t p.1 o in
     go (bytes_eq e.0 t) p.0 i
   where
@@ -38,7 +35,7 @@ lookup_other k (e ∷ es) other t l o =
 pub lookup_misses : (k : ℕ) (table : Table) (other : Terminal) (t : List ℕ) → lacks k table ≡ true → is_other k (lookup table other t) ≡ false → list_any (λ e. bytes_eq e.0 t) table ≡ false
 lookup_misses k [] other t l f = refl
 lookup_misses k (e ∷ es) other t l f =
-    let p : (is_other k e.1 ≡ true) × (lacks k es ≡ true) = both (is_other k e.1) (lacks k es) l in
+    let p : (is_other k e.1 ≡ true) × (lacks k es ≡ true) = and_true (is_other k e.1) (lacks k es) l in
     go (bytes_eq e.0 t) p.0 (lookup_misses k es other t p.1) f
   where
     go : (c : Bool) → is_other k e.1 ≡ true → (is_other k (lookup es other t) ≡ false → list_any (λ e. bytes_eq e.0 t) es ≡ false) → is_other k (cond c e.1 (lookup es other t)) ≡ false → (c || list_any (λ e. bytes_eq e.0 t) es) ≡ false
