@@ -11,7 +11,8 @@ use Rattle.cj_draft.specs.declared.passes.Skipped.{Skipped}
 use Rattle.cj_draft.specs.declared.passes.Skipped.TheVariants.{NoPlace}
 use Rattle.cj_draft.specs.Arrives.{place_at}
 use Rattle.cj_draft.specs.Sound.{Sound}
-use Rattle.cj_anchor.specs.AnchorInsertion.{offence_at, anchor_offence, anchored, IsAnchorStep, skip_number, AreAnchored, Placed, Passed}
+use Rattle.cj_draft.specs.Skips.{told}
+use Rattle.cj_anchor.specs.AnchorInsertion.{offence_at, anchor_offence, anchored, IsAnchorStep, AreAnchored, Placed, Passed}
 use Rattle.cj_anchor.proofs.AnchorSound.{anchored_sound}
 
 pub no_offence_within : (code : Code) (l : Label) → anchor_offence code l ≡ None → l.0 < length code.places
@@ -37,7 +38,7 @@ pub step_rest : (first : Code) (all : List Label) (code : Code) (index : ℕ) (l
 step_rest first all code index l labels made skips more step rest end later are = ⊎_elim
     (λ s. subst (λ (ss : List (ℕ × Skipped)). AreAnchored 0 first all end (ss ++ later)) (sym s.2) (rest end later (Placed index code made end l labels later s.0 s.1 are)))
     (λ s.
-    let entry : List (ℕ × Skipped) = (skip_number index, s.0) ∷ [] in
+    let entry : List (ℕ × Skipped) = (told index, s.0) ∷ [] in
     let now = subst (λ (k : Code). AreAnchored (index + 1) k labels end later) s.2 are in
     let done = rest end (entry ++ later) (Passed index code end l labels s.0 later s.1 now) in
     subst (AreAnchored 0 first all end) (sym (ap (λ (ss : List (ℕ × Skipped)). ss ++ later) s.3 ∙ append_assoc skips entry later)) done) step

@@ -6,9 +6,10 @@ use Rattle.cj_draft.specs.declared.code.Place.{Place}
 use Rattle.cj_draft.specs.declared.code.Code.{Code}
 use Rattle.cj_draft.specs.declared.passes.Skipped.{Skipped}
 use Rattle.cj_draft.specs.Sound.{pair_of}
+use Rattle.cj_draft.specs.Skips.{told}
 use Rattle.cj_rows.specs.Pairs.{AreWith}
 use Rattle.cj_rows.proofs.WithPairs.{with_alike}
-use Rattle.cj_anchor.specs.AnchorInsertion.{anchored, IsAnchored, skip_number, AreAnchored, Finished, Placed, Passed}
+use Rattle.cj_anchor.specs.AnchorInsertion.{anchored, IsAnchored, AreAnchored, Finished, Placed, Passed}
 
 pub anchored_unique : (code : Code) (label : Label) (one other : Code) → IsAnchored code label one → IsAnchored code label other → one ≡ other
 anchored_unique code label one other a b =
@@ -34,4 +35,4 @@ anchors_unique index code labels one other skips skips' (Passed i k made l ls sk
     (ih.0, ap₂ (λ (s : Skipped) (more : List (ℕ × Skipped)). entry i s ∷ more) (same_Some skipped skipped' (sym some ∙ some')) ih.1)
   where
     entry : ℕ → Skipped → ℕ × Skipped
-    entry n s = (skip_number n, s)
+    entry n s = (told n, s)

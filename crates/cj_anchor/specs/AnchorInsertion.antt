@@ -1,5 +1,5 @@
 -- Anchors before labels.
-use Rattle.std.specs.Prelude.{◌≡◌, ℕ, ◌+◌, ◌-◌, ◌^◌, min, ◌⊎◌, List, [], ◌∷◌, ◌++◌, length, map, Option, Some, None}
+use Rattle.std.specs.Prelude.{◌≡◌, ℕ, ◌+◌, ◌⊎◌, List, [], ◌∷◌, ◌++◌, length, map, Option, Some, None}
 use Rattle.cj_ir.specs.declared.language.Label.{Label}
 use Rattle.cj_draft.specs.declared.instructions.VInstr.TheVariants.{Anchor}
 use Rattle.cj_draft.specs.declared.code.Back.{Back}
@@ -10,6 +10,7 @@ use Rattle.cj_draft.specs.declared.passes.Skipped.TheVariants.{NoPlace}
 use Rattle.cj_draft.specs.Arrives.{place_at}
 use Rattle.cj_draft.specs.Sound.{pair_of}
 use Rattle.cj_draft.specs.Edges.{fresh_label, led_to}
+use Rattle.cj_draft.specs.Skips.{told}
 use Rattle.cj_anchor.specs.Lowering.{led_place}
 use Rattle.cj_rows.specs.Rows.{fresh_row}
 use Rattle.cj_rows.specs.Rooms.{room_offence}
@@ -50,10 +51,6 @@ pub record IsAnchored (code : Code) (label : Label) (made : Code) : Type 0 where
 
 -- ---- Anchors before each label of a list
 
--- the place in the list, as an entry of the skips has it
-unfoldable pub skip_number : ℕ → ℕ
-skip_number index = min index (2 ^ 32 - 1)
-
 -- from the place `index` of the list on, with these labels left: the code that is made, and the offences with their places
 pub data AreAnchored : ℕ → Code → List Label → Code → List (ℕ × Skipped) → Type 0 where
   Finished : (index : ℕ) (code : Code) → AreAnchored index code [] code []
@@ -62,7 +59,7 @@ pub data AreAnchored : ℕ → Code → List Label → Code → List (ℕ × Ski
       AreAnchored index code (label ∷ labels) made skips
   Passed : (index : ℕ) (code made : Code) (label : Label) (labels : List Label) (skipped : Skipped) (skips : List (ℕ × Skipped)) →
       anchor_offence code label ≡ Some skipped → AreAnchored (index + 1) code labels made skips →
-      AreAnchored index code (label ∷ labels) made ((skip_number index, skipped) ∷ skips)
+      AreAnchored index code (label ∷ labels) made ((told index, skipped) ∷ skips)
 
 -- ---- one label of the list
 
@@ -70,7 +67,7 @@ pub data AreAnchored : ℕ → Code → List Label → Code → List (ℕ × Ski
 abbrev pub IsAnchorStep : Code → ℕ → Label → Code → List (ℕ × Skipped) → List (ℕ × Skipped) → Type 0
 IsAnchorStep code index label made skips more =
     ((anchor_offence code label ≡ None) × IsAnchored code label made × (more ≡ skips))
-    ⊎ ((skipped : Skipped) × (anchor_offence code label ≡ Some skipped) × (made ≡ code) × (more ≡ skips ++ (skip_number index, skipped) ∷ []))
+    ⊎ ((skipped : Skipped) × (anchor_offence code label ≡ Some skipped) × (made ≡ code) × (more ≡ skips ++ (told index, skipped) ∷ []))
 
 -- the place of a fresh Anchor
 pub record IsAnchorPlace (label : Label) (place fresh : Place) : Type 0 where

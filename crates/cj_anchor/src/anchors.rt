@@ -4,11 +4,11 @@ ghost use Rattle.std.specs.Prelude.{◌≡◌, ◌<◌, ◌≤◌, IfOk, length,
 ghost use Rattle.cj_draft.specs.Edges.{led_to};
 ghost use Rattle.cj_anchor.specs.Lowering.{led_place};
 ghost use Rattle.cj_anchor.specs.Search.{IsClosed, IsTable, given};
-ghost use Rattle.cj_anchor.specs.AnchorInsertion.{anchor_offence, IsAnchored, IsAnchorStep, IsAnchorPlace, skip_number, AreAnchored};
+ghost use Rattle.cj_anchor.specs.AnchorInsertion.{anchor_offence, IsAnchored, IsAnchorStep, IsAnchorPlace, AreAnchored};
 
 use crate::edges::{given, led_place};
 use crate::lowering::reversed;
-use cj_draft::{Code, Draft, Place, Places, Skipped, Skips, VInstr, led_to};
+use cj_draft::{Code, Draft, Place, Places, Skipped, Skips, VInstr, led_to, told};
 use cj_ir::{Duplicate, Label, Labels, NoMemory};
 use cj_rows::{fresh_row, room_offence, with_pair};
 use std::alloc::Global;
@@ -42,22 +42,10 @@ fn insert_anchor(
     ensures { IfOk result (λ made. IsAnchorStep code index label made skips.old skips.new) }
 {
     if let Some(skipped) = anchor_offence(&code, label) {
-        skips.push((skip_number(index), skipped))?;
+        skips.push((told(index), skipped))?;
         return Ok(code);
     }
     anchored(code, label)
-}
-
-/// The place in the list, as the skips tell it.
-#[tactic(auto, unfolding(crate::specs::AnchorInsertion::skip_number))]
-fn skip_number(index: usize) -> u32
-    ensures { result ≡ skip_number index }
-{
-    if index < u32::MAX as usize {
-        index as u32
-    } else {
-        u32::MAX
-    }
 }
 
 /// Why no Anchor stands before the label.

@@ -19,10 +19,11 @@ use Rattle.cj_draft.specs.declared.passes.Skipped.{Skipped}
 use Rattle.cj_draft.specs.declared.passes.Skipped.TheVariants.{NoPlace, NotAnchor, NoRegister, Full}
 use Rattle.cj_draft.specs.Arrives.{place_at}
 use Rattle.cj_draft.specs.WellNamed.{IsGuardWithin}
+use Rattle.cj_draft.specs.Skips.{told}
 use Rattle.cj_rows.specs.Rows.{fresh_row, anchor_next}
 use Rattle.cj_rows.specs.Rooms.{if_full, room_offence}
 use Rattle.cj_rows.proofs.Room.{not_full, has_room}
-use Rattle.cj_assume.specs.ImmediateAssume.{guard_count, count_in, guards_at, or_next, if_missing, guard_offence, register_offence, told, guards_offence, full_offence, offence_after, offence_at, assume_offence}
+use Rattle.cj_assume.specs.ImmediateAssume.{guard_count, count_in, guards_at, or_next, if_missing, guard_offence, register_offence, guards_offence, full_offence, offence_after, offence_at, assume_offence}
 
 -- ---- one condition after another
 

@@ -19,10 +19,11 @@ use Rattle.cj_draft.specs.declared.passes.Skipped.TheVariants.{NoPlace, NotAncho
 use Rattle.cj_draft.specs.Arrives.{place_at}
 use Rattle.cj_draft.specs.Sound.{pair_of}
 use Rattle.cj_draft.specs.Edges.{successors, led_to, fresh_label}
+use Rattle.cj_draft.specs.Skips.{told}
 use Rattle.cj_rows.specs.Rows.{fresh_row}
 use Rattle.cj_rows.specs.Rooms.{room_offence}
 use Rattle.cj_rows.specs.Pairs.{AreWith}
-use Rattle.cj_assume.specs.ImmediateAssume.{or_next, if_missing, register_offence, told, guards_offence, with_instr}
+use Rattle.cj_assume.specs.ImmediateAssume.{or_next, if_missing, register_offence, guards_offence, with_instr}
 
 -- ---- edges
 

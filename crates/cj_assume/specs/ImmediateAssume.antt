@@ -1,5 +1,5 @@
 -- An Assume directly after an Anchor.
-use Rattle.std.specs.Prelude.{◌≡◌, ℕ, ◌+◌, ◌-◌, ◌^◌, min, Bool, true, false, nat_lt, List, [], ◌∷◌, ◌++◌, length, Option, Some, None, slice_set}
+use Rattle.std.specs.Prelude.{◌≡◌, ℕ, ◌+◌, Bool, true, false, nat_lt, List, [], ◌∷◌, ◌++◌, length, Option, Some, None, slice_set}
 use Rattle.cj_ir.specs.declared.language.Label.{Label}
 use Rattle.cj_ir.specs.declared.language.Guard.{Guard}
 use Rattle.cj_ir.specs.declared.language.Guard.TheVariants.{Is, Never}
@@ -13,6 +13,7 @@ use Rattle.cj_draft.specs.declared.passes.Skipped.{Skipped}
 use Rattle.cj_draft.specs.declared.passes.Skipped.TheVariants.{NoPlace, NotAnchor, NoRegister}
 use Rattle.cj_draft.specs.Arrives.{place_at}
 use Rattle.cj_draft.specs.Edges.{fresh_label}
+use Rattle.cj_draft.specs.Skips.{told, unless}
 use Rattle.cj_rows.specs.Rows.{fresh_row, anchor_next, anchor_at}
 use Rattle.cj_rows.specs.Rooms.{if_full, room_offence}
 
@@ -49,10 +50,6 @@ guard_offence regs Never = None
 unfoldable pub register_offence : ℕ → List Guard → Option Skipped
 register_offence regs [] = None
 register_offence regs (guard ∷ guards) = or_next (guard_offence regs guard) (register_offence regs guards)
-
--- a count, as a skip tells it
-unfoldable pub told : ℕ → ℕ
-told count = min count (2 ^ 32 - 1)
 
 -- an Assume may have 8 guards
 unfoldable pub guards_offence : ℕ → Option Skipped
@@ -133,10 +130,6 @@ assumed_after code anchor guards (Some next) = assumed_by code anchor guards nex
 -- the code with the guards assumed directly after the Anchor
 unfoldable pub assumed : Code → Label → List Guard → Code
 assumed code anchor guards = assumed_after code anchor guards (anchor_at code anchor)
-
-unfoldable pub unless : Option Skipped → Code → Code → Code
-unless None code made = made
-unless (Some skipped) code made = code
 
 -- the code after the pass: where a condition is against it, the code stays
 unfoldable pub assumed_or_left : Code → Label → List Guard → Code

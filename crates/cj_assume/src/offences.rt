@@ -1,9 +1,9 @@
 //! Why an Assume can't stand directly after an Anchor.
 
 ghost use Rattle.std.specs.Prelude.{◌≡◌, ◌+◌, ◌≤◌, length};
-ghost use Rattle.cj_assume.specs.ImmediateAssume.{guards_at, guard_offence, register_offence, told, guards_offence, full_offence, assume_offence};
+ghost use Rattle.cj_assume.specs.ImmediateAssume.{guards_at, guard_offence, register_offence, guards_offence, full_offence, assume_offence};
 
-use cj_draft::{Code, Room, Skipped, VInstr};
+use cj_draft::{Code, Room, Skipped, VInstr, told};
 use cj_ir::{Guard, Label};
 use cj_rows::{anchor_next, fresh_row, room_offence};
 
@@ -100,16 +100,4 @@ pub(crate) fn guards_offence(own: usize, count: usize) -> Option<Skipped>
         room: Room::Guards,
         count: told(all),
     })
-}
-
-/// A count, as a skip tells it.
-#[tactic(auto, unfolding(crate::specs::ImmediateAssume::told))]
-pub(crate) fn told(count: usize) -> u32
-    ensures { result ≡ told count }
-{
-    if count < u32::MAX as usize {
-        count as u32
-    } else {
-        u32::MAX
-    }
 }

@@ -9,8 +9,8 @@ ghost use Rattle.cj_assume.specs.DelayedAssume.{nexts_in, is_label, is_silent, b
 ghost use Rattle.cj_assume.specs.CountedEdges.{AreNextsWithin, AreCounted};
 
 use crate::edges::edges_into;
-use crate::offences::{guards_offence, register_offence, told};
-use cj_draft::{Code, Point, Skipped, Successors, VInstr};
+use crate::offences::{guards_offence, register_offence};
+use cj_draft::{Code, Point, Skipped, Successors, VInstr, told};
 use cj_ir::{FunId, Guard, Instr, Label, Program};
 use cj_links::EdgeLists;
 use cj_rows::{fresh_row, room_offence};

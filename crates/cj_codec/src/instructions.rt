@@ -1,8 +1,8 @@
 //! The words of instructions.
 
 ghost use Rattle.std.specs.Prelude.{◌≡◌, ◌++◌, ◌∷◌, [], OnOk, All};
-ghost use Rattle.cj_codec.specs.Spelling.{pair_words, instr_words, counted, guard_words, point_words, operand_words};
-ghost use Rattle.cj_codec.specs.Values.{HasPairValue, HasInstrValues, HasGuardValue, HasPointValues, HasOperandValue};
+ghost use Rattle.cj_codec.specs.Spelling.{pair_words, instr_words, expr_words, counted, guard_words, point_words, operand_words};
+ghost use Rattle.cj_codec.specs.Values.{HasPairValue, HasExprValues, HasInstrValues, HasGuardValue, HasPointValues, HasOperandValue};
 ghost use Rattle.cj_codec.specs.Reading.{pair_at, pairs_at, has_dest, are_apart, op_at, move_at, cond_at, call_at, print_at, load_at, store_at, fail_at, assume_at, instr_by, instr_at};
 ghost use Rattle.cj_codec.specs.Answers.{left, Gives};
 
@@ -13,7 +13,7 @@ use crate::points::read_point;
 use crate::reader::{Limits, ReadError, WordReader};
 use crate::spelled::{Spelled, Words};
 use cj_draft::{Pair, Pairs, Point, VInstr};
-use cj_ir::{FunId, Guards, Label, NoMemory, Operands, Reg};
+use cj_ir::{Expr, FunId, Guards, Label, NoMemory, Operand, Operands, Reg};
 use std::alloc::Global;
 
 #[tactic(auto, using(crate::proofs::Capped::capped_more))]
@@ -33,7 +33,34 @@ impl Spelled for Pair {
     }
 }
 
-// The words of a call behind its number.
+// The words of an op.
+fn write_op(dest: Reg, expr: Expr, next: Label, out: &mut Words) -> Result<(), NoMemory>
+    ensures words { OnOk result (out.new ≡ out.old ++ 2 ∷ dest.0 ∷ (expr_words expr ++ next.0 ∷ [])) }
+    ensures values { OnOk result (HasExprValues expr) }
+{
+    out.push(2)?;
+    dest.write(out)?;
+    expr.write(out)?;
+    next.write(out)
+}
+
+// The words of a cond.
+fn write_cond(
+    test: Operand,
+    then_to: Label,
+    else_to: Label,
+    out: &mut Words,
+) -> Result<(), NoMemory>
+    ensures words { OnOk result (out.new ≡ out.old ++ 4 ∷ (operand_words test ++ then_to.0 ∷ else_to.0 ∷ [])) }
+    ensures values { OnOk result (HasOperandValue test) }
+{
+    out.push(4)?;
+    test.write(out)?;
+    then_to.write(out)?;
+    else_to.write(out)
+}
+
+// The words of a call.
 fn write_call(
     dest: Reg,
     function: FunId,
@@ -41,16 +68,45 @@ fn write_call(
     next: Label,
     out: &mut Words,
 ) -> Result<(), NoMemory>
-    ensures words { OnOk result (out.new ≡ out.old ++ dest.0 ∷ function.0 ∷ (counted operand_words args.now ++ next.0 ∷ [])) }
+    ensures words { OnOk result (out.new ≡ out.old ++ 5 ∷ dest.0 ∷ function.0 ∷ (counted operand_words args.now ++ next.0 ∷ [])) }
     ensures values { OnOk result (All HasOperandValue args.now) }
 {
+    out.push(5)?;
     dest.write(out)?;
     function.write(out)?;
     args.write(out)?;
     next.write(out)
 }
 
-// The words of an assume behind its number.
+// The words of a load.
+fn write_load(dest: Reg, address: Operand, next: Label, out: &mut Words) -> Result<(), NoMemory>
+    ensures words { OnOk result (out.new ≡ out.old ++ 8 ∷ dest.0 ∷ (operand_words address ++ next.0 ∷ [])) }
+    ensures values { OnOk result (HasOperandValue address) }
+{
+    out.push(8)?;
+    dest.write(out)?;
+    address.write(out)?;
+    next.write(out)
+}
+
+// The words of a store.
+fn write_store(
+    address: Operand,
+    value: Operand,
+    next: Label,
+    out: &mut Words,
+) -> Result<(), NoMemory>
+    ensures words { OnOk result (out.new ≡ out.old ++ 9 ∷ (operand_words address ++ (operand_words value ++ next.0 ∷ []))) }
+    ensures address { OnOk result (HasOperandValue address) }
+    ensures value { OnOk result (HasOperandValue value) }
+{
+    out.push(9)?;
+    address.write(out)?;
+    value.write(out)?;
+    next.write(out)
+}
+
+// The words of an assume.
 fn write_assume(
     guards: &Guards,
     back: u32,
@@ -58,10 +114,11 @@ fn write_assume(
     next: Label,
     out: &mut Words,
 ) -> Result<(), NoMemory>
-    ensures words { OnOk result (out.new ≡ out.old ++ (counted guard_words guards.now ++ (back ∷ (point_words target.now ++ next.0 ∷ [])))) }
+    ensures words { OnOk result (out.new ≡ out.old ++ 11 ∷ (counted guard_words guards.now ++ (back ∷ (point_words target.now ++ next.0 ∷ [])))) }
     ensures guards { OnOk result (All HasGuardValue guards.now) }
     ensures target { OnOk result (HasPointValues target.now) }
 {
+    out.push(11)?;
     guards.write(out)?;
     out.push(back as u64)?;
     target.write(out)?;
@@ -100,12 +157,7 @@ impl Spelled for VInstr {
                 out.push(1)?;
                 next.write(out)
             }
-            VInstr::Op { dest, expr, next } => {
-                out.push(2)?;
-                dest.write(out)?;
-                expr.write(out)?;
-                next.write(out)
-            }
+            VInstr::Op { dest, expr, next } => write_op(dest, expr, next, out),
             VInstr::Move { ref pairs, next } => {
                 out.push(3)?;
                 pairs.write(out)?;
@@ -115,21 +167,13 @@ impl Spelled for VInstr {
                 test,
                 then_to,
                 else_to,
-            } => {
-                out.push(4)?;
-                test.write(out)?;
-                then_to.write(out)?;
-                else_to.write(out)
-            }
+            } => write_cond(test, then_to, else_to, out),
             VInstr::Call {
                 dest,
                 function,
                 ref args,
                 next,
-            } => {
-                out.push(5)?;
-                write_call(dest, function, args, next, out)
-            }
+            } => write_call(dest, function, args, next, out),
             VInstr::Return { value } => {
                 out.push(6)?;
                 value.write(out)
@@ -143,22 +187,12 @@ impl Spelled for VInstr {
                 dest,
                 address,
                 next,
-            } => {
-                out.push(8)?;
-                dest.write(out)?;
-                address.write(out)?;
-                next.write(out)
-            }
+            } => write_load(dest, address, next, out),
             VInstr::Store {
                 address,
                 value,
                 next,
-            } => {
-                out.push(9)?;
-                address.write(out)?;
-                value.write(out)?;
-                next.write(out)
-            }
+            } => write_store(address, value, next, out),
             VInstr::Fail { function, label } => {
                 out.push(10)?;
                 function.write(out)?;
@@ -169,10 +203,7 @@ impl Spelled for VInstr {
                 back,
                 ref target,
                 next,
-            } => {
-                out.push(11)?;
-                write_assume(guards, back, target, next, out)
-            }
+            } => write_assume(guards, back, target, next, out),
             VInstr::Anchor { .. } => Ok(()),
         }
     }

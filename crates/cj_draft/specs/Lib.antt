@@ -8,4 +8,5 @@ pub mod Sound
 pub mod Relabel
 pub mod BaseBody
 pub mod Bodies
+pub mod Skips
 pub mod Inlining

@@ -18,7 +18,7 @@ pub use drafts::Draft;
 pub use edges::{Successors, led_to};
 pub use facts::{Fact, FactList, FactTable, Facts};
 pub use instructions::{Pair, Pairs, VInstr};
-pub use passes::{Pass, Passes, Room, Skipped, Skips};
+pub use passes::{Pass, Passes, Room, Skipped, Skips, told};
 pub use points::{Frames, Point, PointFrame};
 pub use versions::Version;
 

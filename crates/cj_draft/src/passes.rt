@@ -1,5 +1,8 @@
 //! Passes: what may be asked of a draft, and why one was skipped.
 
+ghost use Rattle.std.specs.Prelude.{◌≡◌};
+ghost use Rattle.cj_draft.specs.Skips.{told};
+
 use cj_ir::{FunId, Guards, Label, Labels, Reg, Sequence};
 
 #[derive(Debug, Drop)]
@@ -45,3 +48,15 @@ pub enum Skipped {
 
 /// Passes that were skipped, by their numbers in a list, with the reason.
 pub type Skips = Sequence<(u32, Skipped)>;
+
+/// A number, as a skip tells it: the greatest of `u32` where it is more.
+#[tactic(auto, unfolding(crate::specs::Skips::told))]
+pub fn told(number: usize) -> u32
+    ensures { result ≡ told number }
+{
+    if number < u32::MAX as usize {
+        number as u32
+    } else {
+        u32::MAX
+    }
+}

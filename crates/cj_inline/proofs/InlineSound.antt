@@ -34,11 +34,12 @@ use Rattle.cj_rows.specs.Rows.{guard_in, guard_at}
 use Rattle.cj_rows.proofs.ListReads.{get-set_same, get-set_other, get-append_left}
 use Rattle.cj_rows.proofs.RowLemmas.{guard_place, has_guard}
 use Rattle.cj_inline.specs.declared.seams.Seam.{Seam}
-use Rattle.cj_inline.specs.Inlining.{most_frames, place_frames, inline_offence, inlined_back, inlined_place, seam_at, inlined_by, inlined_at, inlined, unless, inlined_or_left}
+use Rattle.cj_inline.specs.Inlining.{most_frames, place_frames, inline_offence, inlined_back, inlined_place, seam_at, inlined_by, inlined_at, inlined, inlined_or_left}
 use Rattle.cj_inline.proofs.MapReads.{get-append_after, get-map_some, get-map_from, contains-map, contains-map_from}
 use Rattle.cj_inline.proofs.Greatest.{greatest_bounds}
 use Rattle.cj_draft.proofs.Wider.{place_wider}
 use Rattle.cj_draft.proofs.EdgeLemmas.{guard_next_within}
+use Rattle.cj_draft.specs.Skips.{unless}
 use Rattle.cj_inline.proofs.Seaming.{HasSeam, appended_below, place_inlined, call_fine}
 use Rattle.cj_inline.proofs.Conditions.{CanInline}
 use Rattle.cj_inline.proofs.InlineRows.{guard_next-inlined, HasGuardsOfBoth, rows_inlined}

@@ -16,6 +16,7 @@ use Rattle.cj_draft.specs.declared.passes.Skipped.{Skipped}
 use Rattle.cj_draft.specs.declared.passes.Skipped.TheVariants.{NoPlace, NotCall, Other, Deep}
 use Rattle.cj_draft.specs.Arrives.{place_at}
 use Rattle.cj_draft.specs.Inlining.{shift_label, joined, inlined_instr, joined_facts, appended_frames, call_place}
+use Rattle.cj_draft.specs.Skips.{unless}
 use Rattle.cj_rows.specs.Rooms.{if_full}
 use Rattle.cj_inline.specs.declared.seams.Seam.{Seam}
 
@@ -147,10 +148,6 @@ inlined_at P code call callee (Some place) = inlined_by P code call callee place
 -- the code with the callee in the place of the call
 unfoldable pub inlined : Program → Code → Label → Code → Code
 inlined P code call callee = inlined_at P code call callee (place_at code call)
-
-unfoldable pub unless : Option Skipped → Code → Code → Code
-unless None code made = made
-unless (Some skipped) code made = code
 
 -- the code after the pass: where a condition is against it, the code stays
 unfoldable pub inlined_or_left : Program → Code → Label → Code → Code

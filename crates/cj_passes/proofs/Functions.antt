@@ -10,10 +10,11 @@ use Rattle.cj_draft.specs.declared.passes.Pass.TheVariants.{Anchors, Assume, Del
 use Rattle.cj_draft.specs.declared.passes.Skipped.{Skipped}
 use Rattle.cj_draft.specs.Arrives.{place_at}
 use Rattle.cj_anchor.specs.AnchorInsertion.{anchored, IsAnchored, AreAnchored, Finished, Placed, Passed}
-use Rattle.cj_assume.specs.ImmediateAssume.{assume_offence, guards_at, with_places, appended_in, appended, inserted_in, inserted, assumed_by, assumed_after, assumed, unless, assumed_or_left}
+use Rattle.cj_assume.specs.ImmediateAssume.{assume_offence, guards_at, with_places, appended_in, appended, inserted_in, inserted, assumed_by, assumed_after, assumed, assumed_or_left}
 use Rattle.cj_draft.specs.declared.instructions.VInstr.{VInstr}
 use Rattle.cj_draft.specs.declared.instructions.VInstr.TheVariants.{Nop, Op, Move, Cond, Call, Return, Print, Load, Store, Fail}
 use Rattle.cj_draft.specs.declared.instructions.VInstr.TheVariants as version
+use Rattle.cj_draft.specs.Skips.{unless}
 use Rattle.cj_rows.specs.Rows.{anchor_at}
 use Rattle.cj_assume.specs.DelayedAssume.{delayed, IsAfterDelay}
 use Rattle.cj_const.specs.Folding.{folded, IsFolded}
@@ -64,7 +65,7 @@ unfolding folded
 fold_keeps code made is = ap (λ (k : Code). k.function) is.2
 
 inline_keeps : (P : Program) (code : Code) (call : Label) (callee : Code) → (inlining.inlined_or_left P code call callee).function ≡ code.function
-unfolding inlining.inlined_or_left inlining.inlined inlining.inlined_at inlining.inlined_by inlining.unless
+unfolding inlining.inlined_or_left inlining.inlined inlining.inlined_at inlining.inlined_by unless
 inline_keeps P code call callee = by_offence (inlining.inline_offence code call callee)
   where
     by_instr : (place : Place) (instr : VInstr) → (inlining.inlined_by P code call callee place instr).function ≡ code.function
@@ -85,7 +86,7 @@ inline_keeps P code call callee = by_offence (inlining.inline_offence code call 
     by_place None = refl
     by_place (Some place) = by_instr place place.instr
 
-    by_offence : (o : Option Skipped) → (inlining.unless o code (inlining.inlined P code call callee)).function ≡ code.function
+    by_offence : (o : Option Skipped) → (unless o code (inlining.inlined P code call callee)).function ≡ code.function
     by_offence None = by_place (place_at code call)
     by_offence (Some skipped) = refl
 

@@ -4,14 +4,14 @@ use Rattle.cj_ir.specs.declared.language.Program.{Program}
 use Rattle.cj_draft.specs.declared.code.Code.{Code}
 use Rattle.cj_draft.specs.declared.passes.Pass.{Pass}
 use Rattle.cj_draft.specs.declared.passes.Skipped.{Skipped}
-use Rattle.cj_anchor.specs.AnchorInsertion.{skip_number}
+use Rattle.cj_draft.specs.Skips.{told}
 use Rattle.cj_passes.specs.Pipeline.{reasons, numbered, ArePassed, Passed, IsPassStep}
 
 -- what a pass skipped is appended, one after the other
-pub one_skip_more : (all skips now rest : List (ℕ × Skipped)) (number : ℕ) (skip : ℕ × Skipped) → now ≡ skips ++ (skip_number number, skip.1) ∷ [] → skips ++ numbered number (reasons (skip ∷ rest)) ≡ all → now ++ numbered number (reasons rest) ≡ all
+pub one_skip_more : (all skips now rest : List (ℕ × Skipped)) (number : ℕ) (skip : ℕ × Skipped) → now ≡ skips ++ (told number, skip.1) ∷ [] → skips ++ numbered number (reasons (skip ∷ rest)) ≡ all → now ++ numbered number (reasons rest) ≡ all
 unfolding numbered reasons
 one_skip_more all skips now rest number skip pushed so_far =
-    let item : ℕ × Skipped = (skip_number number, skip.1) in
+    let item : ℕ × Skipped = (told number, skip.1) in
     ap (λ (xs : List (ℕ × Skipped)). xs ++ numbered number (reasons rest)) pushed ∙ append_assoc skips (item ∷ []) (numbered number (reasons rest)) ∙ so_far
 
 -- a pass of the list is made

@@ -8,7 +8,8 @@ use Rattle.cj_draft.specs.declared.code.Code.{Code}
 use Rattle.cj_draft.specs.declared.passes.Pass.{Pass}
 use Rattle.cj_draft.specs.declared.passes.Pass.TheVariants.{Anchors, Assume, Delay, Const, Inline}
 use Rattle.cj_draft.specs.declared.passes.Skipped.{Skipped}
-use Rattle.cj_anchor.specs.AnchorInsertion.{AreAnchored, skip_number}
+use Rattle.cj_draft.specs.Skips.{told}
+use Rattle.cj_anchor.specs.AnchorInsertion.{AreAnchored}
 use Rattle.cj_anchor.specs.Lowering.{IsLowered}
 use Rattle.cj_assume.specs.ImmediateAssume.{assume_offence, IsAfter}
 use Rattle.cj_assume.specs.DelayedAssume.{delay_offence, IsAfterDelay}
@@ -51,7 +52,7 @@ IsPassed P code (Inline call) made skipped =
 
 -- with the number of the pass
 unfoldable pub numbered : ℕ → List Skipped → List (ℕ × Skipped)
-numbered number skipped = map (λ reason. (skip_number number, reason)) skipped
+numbered number skipped = map (λ reason. (told number, reason)) skipped
 
 -- from the pass `number` of the list on, with these passes left: the code that is made, and what is skipped
 pub data ArePassed (P : Program) : ℕ → Code → List Pass → Code → List (ℕ × Skipped) → Type 0 where

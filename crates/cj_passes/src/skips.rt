@@ -1,23 +1,11 @@
 //! What passes skip, with their numbers.
 
 ghost use Rattle.std.specs.Prelude.{◌≡◌, ◌++◌, ◌∷◌, [], OnOk};
-ghost use Rattle.cj_anchor.specs.AnchorInsertion.{skip_number};
+ghost use Rattle.cj_draft.specs.Skips.{told};
 ghost use Rattle.cj_passes.specs.Pipeline.{listed, reasons, numbered};
 
-use cj_draft::{Skipped, Skips};
+use cj_draft::{Skipped, Skips, told};
 use cj_ir::NoMemory;
-
-/// The number of a pass, as the skips tell it.
-#[tactic(auto, unfolding(cj_anchor::specs::AnchorInsertion::skip_number))]
-fn skip_number(number: usize) -> u32
-    ensures { result ≡ skip_number number }
-{
-    if number < u32::MAX as usize {
-        number as u32
-    } else {
-        u32::MAX
-    }
-}
 
 /// Appends what a pass skipped, each with the pass's number.
 pub(crate) fn push_all(skips: &mut Skips, number: usize, skipped: &Skips) -> Result<(), NoMemory>
@@ -31,9 +19,9 @@ pub(crate) fn push_all(skips: &mut Skips, number: usize, skipped: &Skips) -> Res
 
 /// Appends a reason, with the pass's number in the place of its own.
 fn push_reason(skips: &mut Skips, number: usize, skip: &(u32, Skipped)) -> Result<(), NoMemory>
-    ensures { OnOk result (skips.new ≡ skips.old ++ (skip_number number, skip.now.1) ∷ []) }
+    ensures { OnOk result (skips.new ≡ skips.old ++ (told number, skip.now.1) ∷ []) }
 {
-    skips.push((skip_number(number), skip.1))
+    skips.push((told(number), skip.1))
 }
 
 /// Appends that a pass was skipped, if it was, with the pass's number.
@@ -46,7 +34,7 @@ pub(crate) fn push_one(
     ensures { OnOk result (skips.new ≡ skips.old ++ numbered number (listed skipped)) }
 {
     if let Some(reason) = skipped {
-        skips.push((skip_number(number), reason))?;
+        skips.push((told(number), reason))?;
     }
     Ok(())
 }
