@@ -120,3 +120,157 @@ fn run_that_has_time_left_goes_on_to_its_limit(rt: HostRuntime) -> Result<(), Fa
     assert!(rt; played.reports.items()[0].end == End::TurnLimit);
     Ok(())
 }
+
+// What a run comes to.
+#[derive(Clone, Copy)]
+struct Outcome<'a> {
+    printed: &'a [i64],
+    end: End,
+    turns: u64,
+    looks: usize,
+}
+
+// No Assume failed, and each turn counted a base turn.
+fn is_plain(report: &Report, outcome: &Outcome<'_>) -> bool {
+    report.printed.items() == outcome.printed
+        && report.end == outcome.end
+        && counts(report) == (outcome.turns, outcome.turns, 0)
+        && report.notes.items().is_empty()
+        && report.looks.items().len() == outcome.looks
+}
+
+// Whether the runs go over base bodies up to the last one, which enters a version.
+fn ends_in_version(reports: &[Report]) -> bool {
+    let mut is_base = true;
+    for report in reports {
+        if !is_base {
+            return false;
+        }
+        for look in report.looks.items() {
+            is_base = is_base && look.offset == 0;
+        }
+    }
+    !is_base
+}
+
+// All runs come to the same, the last one over a version.
+fn alike(
+    rt: &impl Abort,
+    alloc: Global,
+    program: &str,
+    events: &str,
+    outcome: Outcome<'_>,
+) -> Result<(), Fail> {
+    let text = format!(in alloc; "{program} events {events}")?;
+    let played = played(rt, alloc, text.as_bytes(), None)?;
+    for report in played.reports.items() {
+        assert!(rt; is_plain(report, &outcome));
+    }
+    assert!(rt; ends_in_version(played.reports.items()));
+    Ok(())
+}
+
+const INCREMENT: &str = "fun main(x; y) { 1: op y = x + 1 -> 2 2: print y -> 3 3: return y }";
+
+#[test]
+fn increment_takes_three_turns_and_stops_at_its_limit(rt: HostRuntime) -> Result<(), Fail> {
+    let alloc = rt.alloc();
+    let stopped = Outcome {
+        printed: &[5],
+        end: End::TurnLimit,
+        turns: 2,
+        looks: 1,
+    };
+    let events = "begin main 4 limit 2 compile main { } begin main 4 limit 2";
+    alike(&rt, alloc, INCREMENT, events, stopped)?;
+    let whole = Outcome {
+        end: End::Returned(5),
+        turns: 3,
+        ..stopped
+    };
+    let events = "begin main 4 limit 3 begin main 4 limit 9 compile main { } begin main 4 limit 3";
+    alike(&rt, alloc, INCREMENT, events, whole)?;
+    let events = "begin main 4 limit 3 compile main { } begin main 4 limit 9";
+    alike(&rt, alloc, INCREMENT, events, whole)
+}
+
+#[test]
+fn ten_thousand_calls_wait_for_each_other(rt: HostRuntime) -> Result<(), Fail> {
+    let program =
+        "fun main(x; y) { 1: cond x -> 2, 4 2: op y = x - 1 -> 3 3: call y = main(y) -> 4 4: return x }";
+    let events =
+        "begin main 10000 limit 1000000 step 1 1000000 compile main { } begin main 10000 limit 1000000";
+    let outcome = Outcome {
+        printed: &[],
+        end: End::Returned(10_000),
+        turns: 40_002,
+        looks: 10_001,
+    };
+    alike(&rt, rt.alloc(), program, events, outcome)
+}
+
+// A call of three functions, of which that one has a version in the end.
+fn calls_with_a_version_of(rt: &impl Abort, alloc: Global, compiled: &str) -> Result<(), Fail> {
+    let program = "fun main(x; y) { 1: call y = mid(x) -> 2 2: return y }
+        fun mid(x; y) { 1: call y = low(x) -> 2 2: op y = y + 1 -> 3 3: return y }
+        fun low(x) { 1: print x -> 2 2: return x }";
+    let call = "begin main 5 limit 100";
+    let events = format!(in alloc; "{call} step 1 100 compile {compiled} {{ }} {call}")?;
+    let outcome = Outcome {
+        printed: &[5],
+        end: End::Returned(6),
+        turns: 7,
+        looks: 3,
+    };
+    alike(rt, alloc, program, events.as_str(), outcome)
+}
+
+#[test]
+fn base_bodies_and_versions_call_each_other(rt: HostRuntime) -> Result<(), Fail> {
+    let alloc = rt.alloc();
+    calls_with_a_version_of(&rt, alloc, "main")?;
+    calls_with_a_version_of(&rt, alloc, "mid")?;
+    calls_with_a_version_of(&rt, alloc, "low")
+}
+
+// A call with 64 cells ends so.
+fn ends(rt: &impl Abort, alloc: Global, argument: &str, end: End, turns: u64) -> Result<(), Fail> {
+    let program =
+        "fun main(x; y) { 1: op y = 63 / x -> 2 2: store [x] = 7 -> 3 3: load y = [x] -> 4 4: fail \"no cell\" }";
+    let call = format!(in alloc; "begin main {argument} memory 64 limit 9")?;
+    let events = format!(in alloc; "{call} compile main {{ }} {call}")?;
+    let outcome = Outcome {
+        printed: &[],
+        end,
+        turns,
+        looks: 1,
+    };
+    alike(rt, alloc, program, events.as_str(), outcome)
+}
+
+#[test]
+fn faults_end_a_run(rt: HostRuntime) -> Result<(), Fail> {
+    let alloc = rt.alloc();
+    let failed = End::Failed {
+        function: MAIN,
+        label: Label(3),
+    };
+    ends(&rt, alloc, "0", End::Divide, 1)?;
+    ends(&rt, alloc, "64", End::Address(64), 2)?;
+    ends(&rt, alloc, "-1", End::Address(-1), 2)?;
+    ends(&rt, alloc, "63", failed, 4)
+}
+
+#[test]
+fn loop_goes_round(rt: HostRuntime) -> Result<(), Fail> {
+    let program =
+        "fun main(x) { 1: cond x -> 2, 4 2: print x -> 3 3: op x = x - 1 -> 1 4: return x }";
+    let events = "begin main 3 limit 100 compile main { } begin main 3 limit 100";
+    let outcome = Outcome {
+        printed: &[3, 2, 1],
+        end: End::Returned(0),
+        turns: 11,
+        looks: 1,
+    };
+    alike(&rt, rt.alloc(), program, events, outcome)
+}
