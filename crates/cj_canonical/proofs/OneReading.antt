@@ -24,6 +24,7 @@ use Rattle.cj_script.proofs.ScriptReads.{script_reads, script_known}
 use Rattle.cj_canonical.proofs.MeantInstructions.{none, same_two}
 use Rattle.cj_text.specs.Reads.{Reads, Spells, input_offences, input_of}
 use Rattle.cj_text.proofs.Readings.{no_function}
+use Rattle.cj_grammar.proofs.SentenceLaws.{IsMeaning, reads_ok}
 use Rattle.cj_grammar.proofs.Unoffended.{none_of}
 
 -- the tokens of functions, a script, and the end
@@ -58,22 +59,6 @@ means_of functions lines i fine p s =
 reads_none : {X : Type 0} (es : List Refused) (x y : X) (ts : List Lexeme) → es ≡ [] → y ≡ x → reads es x ts ≡ Ok (y, ts)
 reads_none es x y ts e h = rw (e, h) refl
 
-record IsReading {X : Type 0} (es : List Refused) (x y : X) (ts us : List Lexeme) : Type 0 where
-  fine : es ≡ []
-  value : y ≡ x
-  rest : us ≡ ts
-
-reading_of : {X : Type 0} (es : List Refused) (x y : X) (ts us : List Lexeme) → reads es x ts ≡ Ok (y, us) → IsReading es x y ts us
-reading_of {X} [] x y ts us is =
-    let P : Type 0 = X × List Lexeme in
-    let pair : ◌≡◌ {A = P} (x, ts) (y, us) = cc in
-    record {
-      fine = refl;
-      value = sym (ap (λ (q : P). q.0) pair);
-      rest = sym (ap (λ (q : P). q.1) pair);
-    }
-reading_of (e ∷ es) x y ts us is = cc
-
 program_read : (ts : List Lexeme) (functions : Tree funs) (lines : Tree script) (last : Lexeme) (i : Input) → Parts ts functions lines last → Means functions lines i → program_at ts ≡ Ok (i.checked, leaves script lines ++ last ∷ [])
 program_read ts functions lines last i k m =
     past ts functions lines last k ∙ reads_none (program_offences functions) (program_of functions) i.checked (leaves script lines ++ last ∷ []) m.program_fine m.program
@@ -86,9 +71,9 @@ script_read functions lines last i is_end m =
 same_meaning : (ts : List Lexeme) (f g : Tree funs) (x y : Tree script) (a b : Lexeme) (i : Input) → Parts ts f x a → Means f x i → Parts ts g y b → Means g y i
 same_meaning ts f g x y a b i k m l =
     let us : List Lexeme = leaves script x ++ a ∷ [] in
-    let functions : IsReading (program_offences g) (program_of g) i.checked (leaves script y ++ b ∷ []) us = reading_of (program_offences g) (program_of g) i.checked (leaves script y ++ b ∷ []) us (sym (past ts g y b l) ∙ program_read ts f x a i k m) in
+    let functions : IsMeaning (program_offences g) (program_of g) i.checked (leaves script y ++ b ∷ []) us = reads_ok (program_offences g) (program_of g) i.checked (leaves script y ++ b ∷ []) us (sym (past ts g y b l) ∙ program_read ts f x a i k m) in
     let lines : script_at i.checked.functions us ≡ reads (script_offences i.checked y) (script_of i.checked y) (b ∷ []) = script_known i.checked i.checked.functions us y b [] refl functions.rest l.is_end in
-    let rest : IsReading (script_offences i.checked y) (script_of i.checked y) i.script (b ∷ []) (a ∷ []) = reading_of (script_offences i.checked y) (script_of i.checked y) i.script (b ∷ []) (a ∷ []) (sym lines ∙ script_read f x a i k.is_end m) in
+    let rest : IsMeaning (script_offences i.checked y) (script_of i.checked y) i.script (b ∷ []) (a ∷ []) = reads_ok (script_offences i.checked y) (script_of i.checked y) i.script (b ∷ []) (a ∷ []) (sym lines ∙ script_read f x a i k.is_end m) in
     record {
       program_fine = functions.fine;
       program = functions.value;
