@@ -1,6 +1,6 @@
 //! A list of values that is used again and again.
 
-ghost use Rattle.std.specs.Prelude.{◌≡◌, ◌≤◌, [], ◌++◌, length, map, vec_capacity, All, OnOk, IsOk};
+ghost use Rattle.std.specs.Prelude.{◌≡◌, ◌≤◌, [], ◌++◌, length, map, vec_capacity, All, IfOk, OnOk, IsOk};
 ghost use Rattle.cj_ir.specs.Values.{operand_value, IsOperandWithin};
 
 use cj_draft::{Pair, Pairs};
@@ -17,7 +17,9 @@ pub struct Scratch {
 
 impl Scratch {
     /// An empty list with its room.
-    pub fn new(alloc: Global) -> Result<Scratch, NoMemory> {
+    pub fn new(alloc: Global) -> Result<Scratch, NoMemory>
+        ensures { IfOk result (λ scratch. scratch.values.items ≡ []) }
+    {
         let values = Vec::with_capacity(alloc, 128)?;
         Ok(Scratch { values })
     }
