@@ -23,7 +23,7 @@ use Rattle.cj_text.specs.Reads.{Reads, input_offences, input_of}
 use Rattle.cj_text.specs.Answers.{IsParseError, IsOnlyReading}
 
 -- a script begins with no function
-no_function : (t : Tree script) (ts : List Lexeme) → is_terminal Fun (front (leaves script t ++ ts)) ≡ false
+pub no_function : (t : Tree script) (ts : List Lexeme) → is_terminal Fun (front (leaves script t ++ ts)) ≡ false
 unfolding script front
 no_function (word, rest) ts = fits_apart (Is Calls) (Is Fun) word.token refl word.is
 
