@@ -1,9 +1,8 @@
 -- What the search keeps as it begins and as it finds one label more, and what it has found where all edges are followed.
-use Rattle.std.proofs.Common.{◌≡◌, ℕ, ◌+◌, ◌<◌, ◌≤◌, Bool, true, false, List, [], ◌∷◌, ◌++◌, length, get_or, replicate, Some, refl, sym, ap, ◌∙◌, subst, ⊎_elim, arith, length-append, length-set}
+use Rattle.std.proofs.Common.{◌≡◌, ℕ, ◌+◌, ◌<◌, Bool, true, false, List, [], ◌∷◌, ◌++◌, length, get_or, replicate, Some, refl, sym, ap, ◌∙◌, subst, ⊎_elim, arith, length-append, length-set}
 use Rattle.std.specs.Prelude.{slice_get, slice_set, slice_index_or, Contains, All}
 use Rattle.std.proofs.lemmas.Option.{same_Some, slice_get-get_or}
 use Rattle.std.proofs.lemmas.List.{length-replicate}
-use Rattle.std.proofs.lemmas.List.Sums.{count_by-le-length}
 use Rattle.std.proofs.lemmas.List.Elements.{Contains-get_or, Contains-append_left, Contains-append_right, Contains-append_cases}
 use Rattle.std.proofs.lemmas.Bool.{cases_eq}
 use Rattle.cj_ir.specs.declared.language.Label.{Label}
@@ -120,6 +119,3 @@ search_ends code kept found s entry followed = record {
   count = s.count;
   reached = λ x. (λ e. s.reached x (s.kept_found x e), λ r. s.found_kept x (all_found code found entry followed x r));
 }
-
-pub few_found : (code : Code) (kept : List Bool) (found : List Label) → IsSearch code kept found → length found ≤ length code.places
-few_found code kept found s = omega (arith, s.number, s.count, count_by-le-length (λ (k : Bool). k) kept)

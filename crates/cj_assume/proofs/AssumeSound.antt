@@ -33,11 +33,6 @@ use Rattle.cj_assume.specs.ImmediateAssume.{guards_at, full_offence, assume_offe
 use Rattle.cj_assume.proofs.Conditions.{CanAssume, can_assume, HasAssume, has_assume, guards_within, room_for_more, HasRoom, room_for_fresh}
 use Rattle.cj_assume.proofs.AssumeRows.{row_same, HasGuardsAfter, rows_after}
 
--- a place with another instruction is fine where that is
-place_with : (P : Program) (regs n n' : ℕ) (p : Place) (i : VInstr) → IsPlaceFine P regs n p → IsVInstrFine P regs n' i → IsPlaceFine P regs n' (with_instr i p)
-unfolding with_instr
-place_with P regs n n' p i fine h = record { instr = h; point = fine.point; facts = fine.facts; backs = fine.backs }
-
 -- ---- further guards of an Assume
 
 module _ (P : Program) (context : List Fact) (f : FunId) (code : Code) (l : Label) (count : ℕ) (gs : List Guard)

@@ -31,9 +31,6 @@ pair_format limits = record {
       subst (λ (x : Pair). InPair limits x × (ws ≡ pair_words x ++ rest)) h.is ((h.in_a, h.in_b), h.spelled);
 }
 
-abbrev HaveDests : Limits → List Pair → Type 0
-HaveDests limits pairs = All (λ pair. pair.dest.0 < limits.regs) pairs
-
 abbrev Differ : List Pair → Type 0
 Differ pairs = AllDifferBy (λ pair. pair.dest) pairs
 

@@ -73,10 +73,6 @@ map-at f [] i d h = absurd (omega arith)
 map-at f (x ∷ xs) zero d h = refl
 map-at f (x ∷ xs) (suc i) d h = map-at f xs i d (omega arith)
 
-dest-same : (k : Knowledge) (pair : Pair) → (folded_pair k pair).dest ≡ pair.dest
-unfolding folded_pair
-dest-same k pair = refl
-
 pairs-fine : (k : Knowledge) (n : ℕ) (pairs : List Pair) → ArePairsFine n pairs → ArePairsFine n (map (folded_pair k) pairs)
 unfolding folded_pair
 pairs-fine k n pairs fine = record {

@@ -117,9 +117,6 @@ within-tells row others count yes_ r v e = slot-agrees (get_or row r None) (get_
 abbrev one_if : Bool → ℕ
 one_if b = cond b 1 0
 
-none-known : (s : Option ℤ) → 0 ≤ one_if (is_known s)
-none-known s = omega arith
-
 slot-le : (s o : Option ℤ) → one_if (is_known (kept_slot s o)) ≤ one_if (is_known s)
 unfolding kept_slot is_known
 slot-le s o = ⊎_elim

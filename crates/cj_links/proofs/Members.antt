@@ -2,7 +2,7 @@
 use Rattle.std.proofs.Common.{◌≡◌, ◌≢◌, ℕ, zero, suc, ◌+◌, ◌<◌, ◌≤◌, Bool, not, cond, List, [], ◌∷◌, ◌++◌, length, refl, sym, ap, ◌∙◌, subst, ⊎_elim, arith}
 use Rattle.std.specs.Prelude.{filter, Contains, All, AllPairs, nat_eq}
 use Rattle.std.proofs.lemmas.List.Elements.{All-head, All-contains, Contains-get_or}
-use Rattle.std.proofs.lemmas.List.Kept.{AllPairs-cons, AllPairs-filter}
+use Rattle.std.proofs.lemmas.List.Kept.{AllPairs-filter}
 use Rattle.std.proofs.lemmas.Bool.{cases_eq, eq-eqb, ne_eqb}
 use Rattle.std.proofs.lemmas.List.Quantifiers.{all_pairs_push}
 use Rattle.cj_ir.proofs.Members.{contains-none, contains-head, contains-tail, contains-cases, all-from_contains}
@@ -27,9 +27,6 @@ once-head x xs once c = once 0 (suc c.0) x (omega arith) (let h = c.1 in omega a
 
 pub once-tail : {X : Type 0} (x : X) (xs : List X) → AllPairs (λ one other. one ≢ other) (x ∷ xs) → AllPairs (λ one other. one ≢ other) xs
 once-tail x xs once = λ i j d lt within. once (suc i) (suc j) d (omega arith) (omega arith)
-
-pub once-cons : {X : Type 0} (x : X) (xs : List X) → (Contains xs x → ⊥) → AllPairs (λ one other. one ≢ other) xs → AllPairs (λ one other. one ≢ other) (x ∷ xs)
-once-cons x xs new once = AllPairs-cons (λ one other. one ≢ other) x xs (all-from_contains (λ y. x ≢ y) xs (λ y c e. new (subst (Contains xs) (sym e) c))) once
 
 pub once-nil : {X : Type 0} → AllPairs {X = X} (λ one other. one ≢ other) []
 once-nil = λ i j d lt within. absurd (omega arith)
