@@ -1,5 +1,5 @@
 -- The turn, its entries and its marks, from what stands on top.
-use Rattle.std.proofs.Common.{◌≡◌, ◌≢◌, ℕ, zero, suc, eq-eqb, List, [], ◌∷◌, Option, Some, None, refl, ap, ◌∙◌, arith, true, false, ◌+◌}
+use Rattle.std.proofs.Common.{◌≡◌, ◌≢◌, ℕ, zero, suc, eq-eqb, List, [], ◌∷◌, Option, Some, None, refl, ap, ◌∙◌, arith, ◌+◌}
 use Rattle.std.specs.Prelude.{ℤ, slice_set, if◌then◌else◌}
 use Rattle.std.specs.Option.{option_and_then, option_map}
 use Rattle.cj_ir.specs.Program.{instr_at}
@@ -10,19 +10,16 @@ use Rattle.cj_ir.specs.declared.language.Operand.{Operand}
 use Rattle.cj_ir.specs.declared.language.Program.{Program}
 use Rattle.cj_ir.specs.declared.language.Instr.{Instr}
 use Rattle.cj_base.specs.declared.machine.Frame.{Frame}
-use Rattle.cj_base.specs.declared.machine.Waiting.{Waiting}
 use Rattle.cj_base.specs.declared.machine.End.TheVariants.{Returned}
-use Rattle.cj_base.specs.Machine.{Effect, Calls, effect, entry_frame, resumed}
+use Rattle.cj_base.specs.Machine.{Calls, effect, entry_frame}
 use Rattle.cj_draft.specs.declared.instructions.VInstr.TheVariants.{Call}
 use Rattle.cj_draft.specs.declared.code.Place.{Place}
 use Rattle.cj_draft.specs.declared.code.Code.{Code}
-use Rattle.cj_draft.specs.Effects.{VersionEffect, Plain, Guarded, version_effect}
-use Rattle.cj_draft.specs.declared.points.Point.{Point}
-use Rattle.cj_draft.specs.Points.{frames_of}
+use Rattle.cj_draft.specs.Effects.{version_effect}
 use Rattle.cj_draft.specs.Arrives.{place_at}
 use Rattle.cj_calls.specs.declared.report.Look.{Look}
-use Rattle.cj_activations.specs.Activations.{VersionFrame, InBase, InVersion, Paused, BaseWaits, VersionWaits, Active}
-use Rattle.cj_engine.specs.Versions.{State, Codes, Continues, Finishes, place_in, moved_to, version_entry, entered_at, offset_told, entered, counted, enters, paused, passed, rebuilt, resumed_by, resumed_at, returns_to, turn_by, version_turn_by, turn_in_base, turn_in_version, turn_of, version_turn}
+use Rattle.cj_activations.specs.Activations.{VersionFrame, InBase, InVersion, Paused, VersionWaits, Active}
+use Rattle.cj_engine.specs.Versions.{State, Codes, Continues, Finishes, place_in, moved_to, version_entry, entered_at, offset_told, entered, counted, enters, paused, resumed_by, resumed_at, returns_to, turn_by, version_turn_by, turn_in_base, turn_in_version, turn_of, version_turn}
 use Rattle.cj_engine.specs.Marks.{base_marks, version_marks, place_marks, marks_in, turn_marks}
 
 -- the place of a version, from its code
@@ -44,30 +41,6 @@ turn_at_version P codes look s v code place top found at =
     ap (turn_of P codes look s) top ∙ ap (turn_in_version P codes look s v) (place_is codes v code place found at)
 
 -- ---- turns by the effect of the instruction
-
-pub base_turn_is : (P : Program) (codes : Codes) (look : Option Look) (s : State) (fr : Frame) (i : Instr) (e : Effect) → s.stack.top ≡ InBase fr → instr_at P fr.function fr.label ≡ Some i → effect i fr s.memory ≡ e → version_turn P codes look s ≡ turn_by P codes look s (InBase fr) e
-base_turn_is P codes look s fr i e top at is = turn_at_base P codes look s fr i top at ∙ ap (turn_by P codes look s (InBase fr)) is
-
-pub version_turn_is : (P : Program) (codes : Codes) (look : Option Look) (s : State) (v : VersionFrame) (code : Code) (place : Place) (e : VersionEffect) → s.stack.top ≡ InVersion v → codes v.function v.offset ≡ Some code → place_at code v.label ≡ Some place → version_effect place.instr v.regs s.memory ≡ e → version_turn P codes look s ≡ version_turn_by P codes look s v e
-version_turn_is P codes look s v code place e top found at is =
-    turn_at_version P codes look s v code place top found at ∙ ap (version_turn_by P codes look s v) is
-
--- an effect of the base machine
-pub version_turn_plain : (P : Program) (codes : Codes) (look : Option Look) (s : State) (v : VersionFrame) (code : Code) (place : Place) (e : Effect) → s.stack.top ≡ InVersion v → codes v.function v.offset ≡ Some code → place_at code v.label ≡ Some place → version_effect place.instr v.regs s.memory ≡ Plain e → version_turn P codes look s ≡ turn_by P codes look s (InVersion v) e
-unfolding version_turn_by
-version_turn_plain P codes look s v code place e top found at is = version_turn_is P codes look s v code place (Plain e) top found at is
-
--- the guards hold
-pub version_passes : (P : Program) (codes : Codes) (look : Option Look) (s : State) (v : VersionFrame) (code : Code) (place : Place) (back : ℕ) (target : Point) (next : Label) → s.stack.top ≡ InVersion v → codes v.function v.offset ≡ Some code → place_at code v.label ≡ Some place → version_effect place.instr v.regs s.memory ≡ Guarded true back target next → version_turn P codes look s ≡ Continues (passed s v next)
-unfolding version_turn_by
-version_passes P codes look s v code place back target next top found at is =
-    version_turn_is P codes look s v code place (Guarded true back target next) top found at is
-
--- a guard fails
-pub version_fails : (P : Program) (codes : Codes) (look : Option Look) (s : State) (v : VersionFrame) (code : Code) (place : Place) (back : ℕ) (target : Point) (next : Label) → s.stack.top ≡ InVersion v → codes v.function v.offset ≡ Some code → place_at code v.label ≡ Some place → version_effect place.instr v.regs s.memory ≡ Guarded false back target next → version_turn P codes look s ≡ Continues (rebuilt s back (frames_of P target v.regs))
-unfolding version_turn_by
-version_fails P codes look s v code place back target next top found at is =
-    version_turn_is P codes look s v code place (Guarded false back target next) top found at is
 
 -- a call enters
 pub turn_enters : (P : Program) (codes : Codes) (look : Option Look) (s : State) (top now : Active) (dest : Reg) (f : FunId) (args : List ℤ) (next : Label) → entered P codes look f args ≡ Some now → turn_by P codes look s top (Calls dest f args next) ≡ Continues (counted s (record { top = now; waiting = paused top next dest ∷ s.stack.waiting }) s.memory [] (s.entries + 1))
@@ -113,11 +86,6 @@ enters_version P codes o look f args code is same not found =
 pub returns_last : (codes : Codes) (s : State) (value : ℤ) (callers : List Paused) → callers ≡ [] → returns_to codes s value callers ≡ Finishes (Returned value) (counted s (record { top = s.stack.top; waiting = [] }) s.memory [] s.entries)
 unfolding returns_to
 returns_last codes s value callers e = ap (returns_to codes s value) e
-
--- a base frame waits innermost
-pub returns_to_base : (codes : Codes) (s : State) (value : ℤ) (callers others : List Paused) (w : Waiting) → callers ≡ BaseWaits w ∷ others → returns_to codes s value callers ≡ Continues (counted s (record { top = InBase (resumed w value); waiting = others }) s.memory [] s.entries)
-unfolding returns_to
-returns_to_base codes s value callers others w e = ap (returns_to codes s value) e
 
 -- a version waits innermost, at its call
 pub returns_to_version : (codes : Codes) (s : State) (value : ℤ) (callers others : List Paused) (v : VersionFrame) (code : Code) (place : Place) (dest : Reg) (f : FunId) (args : List Operand) (next : Label) → callers ≡ VersionWaits v ∷ others → codes v.function v.offset ≡ Some code → place_at code v.label ≡ Some place → place.instr ≡ Call dest f args next → returns_to codes s value callers ≡ Continues (counted s (record { top = moved_to (InVersion v) next (slice_set v.regs dest.0 value); waiting = others }) s.memory [] s.entries)

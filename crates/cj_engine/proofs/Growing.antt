@@ -28,9 +28,6 @@ IsKept o later = (o ≡ None) ⊎ (o ≡ later)
 abbrev pub Kept : Progress → Progress → Type 0
 Kept o later = (o ≡ Undefined) ⊎ (o ≡ later)
 
-pub grows_same : (codes : Codes) → Grows codes codes
-grows_same codes f offset code found = found
-
 pub grows_more : (codes later last : Codes) → Grows codes later → Grows later last → Grows codes last
 grows_more codes later last g h f offset code found = h f offset code (g f offset code found)
 

@@ -17,7 +17,7 @@ use Rattle.cj_calls.specs.declared.report.Report.{Report}
 use Rattle.cj_activations.specs.Activations.{Active, InBase, InVersion, Paused, BaseWaits, VersionWaits, Stacked}
 use Rattle.cj_engine.specs.Versions.{State, Codes, Progress, Continues, Finishes, Undefined, moved_to, paused, entered_at, offset_told, entered, counted, enters, returns_to, turn_by, turn_in_base, turn_of, version_turn}
 use Rattle.cj_engine.specs.VersionRuns.{first_state, begins_in, version_start, one_turn_more, version_run, report_of, if_used, report_at, version_report}
-use Rattle.cj_engine.specs.CodeMaps.{SoundCodes, no_codes, IsPlainTrail, IsPlainReport}
+use Rattle.cj_engine.specs.CodeMaps.{IsPlainTrail, IsPlainReport}
 
 abbrev pub IsInBase : Active → Type 0
 IsInBase (InBase fr) = ⊤

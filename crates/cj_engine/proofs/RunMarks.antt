@@ -1,13 +1,12 @@
 -- The marks of a versioned run, turn by turn, over the code and the trail so far.
-use Rattle.std.proofs.Common.{[], subst, ◌≡◌, ◌≢◌, ℕ, zero, suc, ◌+◌, ◌-◌, ◌≤◌, append-nil, List, ◌++◌, refl, sym, ap, ◌∙◌, add-one, ⊎_elim, arith, Some, None}
+use Rattle.std.proofs.Common.{◌≡◌, ◌≢◌, ℕ, zero, suc, ◌+◌, ◌-◌, ◌≤◌, append-nil, List, ◌++◌, refl, sym, ap, ◌∙◌, add-one, ⊎_elim, arith}
 use Rattle.std.specs.Prelude.{slice_get}
 use Rattle.cj_ir.specs.declared.language.Program.{Program}
 use Rattle.cj_base.specs.declared.machine.End.{End}
 use Rattle.cj_base.specs.Run.{Begun}
 use Rattle.cj_calls.specs.declared.report.Look.{Look}
-use Rattle.cj_calls.specs.declared.report.Report.{Report}
 use Rattle.cj_engine.specs.Versions.{State, Codes, Progress, Continues, Finishes, Undefined}
-use Rattle.cj_engine.specs.VersionRuns.{one_turn_more, version_run, report_at, version_report}
+use Rattle.cj_engine.specs.VersionRuns.{one_turn_more, version_run}
 use Rattle.cj_engine.specs.Marks.{turn_marks, next_marks, run_marks, start_marks}
 use Rattle.cj_engine.specs.CodeMaps.{Grows}
 use Rattle.cj_engine.proofs.Growing.{marks_kept}
@@ -71,14 +70,3 @@ marks_at_end P codes trail call n m end s e le =
 pub marks_at_start : (P : Program) (codes : Codes) (trail : List Look) (call : Begun) → run_marks P codes trail call 0 ≡ start_marks call
 unfolding run_marks
 marks_at_start P codes trail call = refl
-
--- more code keeps the marks of a run that has a report
-pub report_marks_kept : (P : Program) (call : Begun) (codes later : Codes) (trail : List Look) (r : Report) → Grows codes later → version_report P codes trail call ≡ Some r → run_marks P later trail call call.limit ≡ run_marks P codes trail call call.limit
-unfolding version_report report_at
-report_marks_kept P call codes later trail r g e =
-    let defined : version_run P codes trail call call.limit ≢ Undefined = λ none.
-    (let nothing : None ≡ Some r = sym (ap (report_at trail) none) ∙ e in
-    let never : ⊥ = cc in
-    never) in
-    subst (λ t. run_marks P later t call call.limit ≡ run_marks P codes trail call call.limit) (append-nil trail)
-    (marks_later P call codes later g trail [] call.limit defined)

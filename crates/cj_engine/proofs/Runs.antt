@@ -160,15 +160,7 @@ module _ (P : Program) (call : Begun) (codes later : Codes) (g : Grows codes lat
 pub continues_defined : (s : State) → Continues s ≢ Undefined
 continues_defined s = λ e. cc
 
-pub finishes_defined : (end : End) (s : State) → Finishes end s ≢ Undefined
-finishes_defined end s = λ e. cc
-
 -- ---- from turn to turn
-
--- the start
-pub run_at_start : (P : Program) (codes : Codes) (trail : List Look) (call : Begun) (top : Active) → entered P codes (slice_get trail 0) call.function call.args ≡ Some top → version_run P codes trail call 0 ≡ Continues (first_state call top)
-unfolding version_run version_start begins_in
-run_at_start P codes trail call top e = ap (begins_in call) e
 
 -- the run after the next turn, over the code and the trail that there are after it
 pub run_next : (P : Program) (call : Begun) (codes later : Codes) (trail more : List Look) (n : ℕ) (s : State) (o : Progress) → Grows codes later → version_run P codes trail call n ≡ Continues s → version_turn P later (slice_get (trail ++ more) s.entries) s ≡ o → version_run P later (trail ++ more) call (n + 1) ≡ o
