@@ -15,7 +15,7 @@ use Rattle.cj_tokens.specs.declared.terminal.Terminal.{Terminal}
 use Rattle.cj_tokens.specs.declared.terminal.Terminal.TheVariants.{Name, Number, Text, Minus}
 use Rattle.cj_tokens.proofs.Again.{blank_again, line_feed_again, name_again, keyword_again, mark_again, text_again, number_again}
 use Rattle.cj_printer.specs.Pieces.{Piece, gap_text, pieces_text, glued, blank, feed}
-use Rattle.cj_ir.proofs.Tests.{or_false}
+use Rattle.cj_ir.proofs.Truths.{or_false}
 
 -- the bytes of pieces in front of others
 abbrev pub before : List Piece → List ℕ → List ℕ

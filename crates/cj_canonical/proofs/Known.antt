@@ -27,7 +27,7 @@ use Rattle.cj_printer.specs.Canonical.{text_or_none, name_of, reg_text, function
 use Rattle.cj_canonical.specs.Written.{IsName, IsValue, IsOperandWritten, IsExprWritten, IsInstrWritten, IsFunctionWritten}
 use Rattle.cj_canonical.proofs.Trees.{number_at, label_number}
 use Rattle.cj_canonical.proofs.Lists.{Every, every_of_all, every_both, every_at, IsFirst, first_placed, first_position, first_of_differing, position_map}
-use Rattle.cj_ir.proofs.Tests.{and_true}
+use Rattle.cj_ir.proofs.Truths.{and_true}
 use Rattle.cj_ir.proofs.ListReads.{at_index}
 
 within : (n : ℕ) → nat_le n 32 ≡ true → nat_lt 32 n ≡ false

@@ -8,7 +8,7 @@ use Rattle.std.proofs.lemmas.Slice.Eq.{bytes_eq-Decides}
 use Rattle.cj_tokens.specs.Lexemes.{Lexeme, Sign, Is, Spelled, number_of, is_terminal, fits, clash}
 use Rattle.cj_tokens.specs.declared.terminal.Terminal.TheVariants.{Name}
 use Rattle.cj_grammar.specs.Grammar.{has, are_apart}
-pub use Rattle.cj_ir.proofs.Tests.{and_true, or_false}
+pub use Rattle.cj_ir.proofs.Truths.{and_true, or_false}
 
 pub known_bool : (b : Bool) → (b ≡ true) ⊎ (b ≡ false)
 known_bool true = inl refl

@@ -22,7 +22,7 @@ use Rattle.cj_reader.specs.Operands.{is_line_number}
 use Rattle.cj_reader.specs.Instructions.{instr_offences}
 use Rattle.cj_reader.specs.Functions.{name_offences, names_offences, texts_of, function_name, param_tokens, other_tokens, head_offences, number_offences, line_number, line_offences, natural, line_of, numbers_of, lines_offences, lines_of, function_scope, function_offences, function_of}
 use Rattle.cj_reader.proofs.LineLaws.{number}
-use Rattle.cj_ir.proofs.Tests.{or_false}
+use Rattle.cj_ir.proofs.Truths.{or_false}
 use Rattle.cj_grammar.proofs.Unoffended.{none_of, none_if}
 use Rattle.cj_reader.proofs.Fine.{negated, below, some_items, from_within}
 use Rattle.cj_reader.proofs.FineParts.{Bounded, Called, instr_fine}

@@ -11,7 +11,7 @@ use Rattle.cj_tokens.specs.declared.refusal.Kind.TheVariants.{TooMany, NameTwice
 use Rattle.cj_grammar.specs.Reading.{offends_if}
 use Rattle.cj_reader.specs.Operands.{is_long}
 use Rattle.cj_reader.specs.Functions.{name_offences, names_offences, texts_of}
-use Rattle.cj_ir.proofs.Tests.{or_false, none_passing}
+use Rattle.cj_ir.proofs.Truths.{or_false, none_passing}
 use Rattle.cj_grammar.proofs.Unoffended.{none_of, none_if}
 use Rattle.cj_reader.proofs.Fine.{below}
 

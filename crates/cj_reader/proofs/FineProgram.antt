@@ -22,7 +22,7 @@ use Rattle.cj_reader.specs.Functions.{name_offences, function_name, head_of, hea
 use Rattle.cj_reader.specs.Meaning.{all_functions, heads_of, program_offences, program_of}
 use Rattle.cj_reader.specs.Reading.{program_at}
 use Rattle.cj_reader.proofs.ProgramLaws.{key, program_reads}
-use Rattle.cj_ir.proofs.Tests.{or_false}
+use Rattle.cj_ir.proofs.Truths.{or_false}
 use Rattle.cj_grammar.proofs.Unoffended.{none_of}
 use Rattle.cj_reader.proofs.FineNames.{name_few, name_new}
 use Rattle.cj_reader.proofs.FineFunctions.{function_fine}

@@ -19,7 +19,7 @@ use Rattle.cj_tokens.specs.declared.terminal.Terminal.{Terminal}
 use Rattle.cj_tokens.specs.declared.terminal.Terminal.TheVariants.{Name, Number, Text, Fun, Nop, Op, Cond, Call, Return, Print, Load, Store, Fail, Neg, Eqz, Calls, Guess, Cold, Then, Else, Warm, Memory, Limit, Events, Begin, Step, Compile, Anchors, Assume, Delay, Const, Inline, When, Never, Keep, OpenParen, CloseParen, OpenBrace, CloseBrace, OpenBracket, CloseBracket, Comma, Semicolon, Colon, Equals, Plus, Minus, Star, Slash, Percent, Less, Arrow}
 use Rattle.cj_tokens.proofs.Found.{letter_no_quote, token_next, size_word, size_text}
 use Rattle.cj_tokens.proofs.Tables.{free_is_name}
-use Rattle.cj_ir.proofs.Tests.{and_true, not_or}
+use Rattle.cj_ir.proofs.Truths.{and_true, not_or}
 
 -- ---- the places of tokens do not change what they are
 

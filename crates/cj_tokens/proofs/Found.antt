@@ -16,7 +16,7 @@ use Rattle.cj_tokens.specs.Words.{is_free_word, is_well}
 use Rattle.cj_tokens.specs.declared.terminal.Terminal.TheVariants.{End, Text, Number, BadNumber, BadCharacter}
 use Rattle.cj_tokens.proofs.Skips.{passed, next_at}
 use Rattle.cj_tokens.proofs.Tables.{is_other, word_other, mark_other, name_is_free}
-use Rattle.cj_ir.proofs.Tests.{and_true, not_or}
+use Rattle.cj_ir.proofs.Truths.{and_true, not_or}
 
 -- ---- what is no end, no name and no text
 

@@ -8,7 +8,7 @@ use Rattle.cj_tokens.specs.Lexemes.{number_of}
 use Rattle.cj_tokens.specs.Spellings.{lookup, keyword_table, mark_table, word_terminal, mark_terminal}
 use Rattle.cj_tokens.specs.declared.terminal.Terminal.{Terminal}
 use Rattle.cj_tokens.specs.declared.terminal.Terminal.TheVariants.{Name, BadCharacter}
-use Rattle.cj_ir.proofs.Tests.{and_true}
+use Rattle.cj_ir.proofs.Truths.{and_true}
 
 -- the terminal has another number
 abbrev pub is_other : ℕ → Terminal → Bool
