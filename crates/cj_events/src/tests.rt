@@ -81,7 +81,7 @@ fn limits_of_runs_and_steps(rt: HostRuntime) {
 }
 
 #[test]
-fn limits_of_passes(rt: HostRuntime) {
+fn limits_of_compilations_and_labels(rt: HostRuntime) {
     let rows = [
         ("compile twice {\n", "} compile twice {\n", 255, Ok(())),
         (
@@ -116,6 +116,19 @@ fn limits_of_passes(rt: HostRuntime) {
             1,
             refused(3, Kind::Range),
         ),
+    ];
+    for (before, part, count, wanted) in rows {
+        assert_eq!(rt;
+            outcome(rt.alloc(), before, part, count, "}"),
+            wanted,
+            "of {part:?}"
+        );
+    }
+}
+
+#[test]
+fn limits_of_guards(rt: HostRuntime) {
+    let rows = [
         (
             "compile twice { assume 511 when 127 = -5\n",
             ", never\n",

@@ -22,7 +22,7 @@ fn refused(line: u32, kind: Kind) -> Result<(), ParseError> {
 }
 
 #[test]
-fn names_and_registers(rt: HostRuntime) {
+fn long_names_and_many_registers(rt: HostRuntime) {
     let rows = [
         ("fun f() { 1: return 0 }", Ok(())),
         (
@@ -54,6 +54,15 @@ fn names_and_registers(rt: HostRuntime) {
             "fun f(F; a, b, c, d, e, f, g, h, i, j, k, l, m, n, o, p, q, r, s, t, u, v, w, x, y, z, A, B, C, D, E,\nF) { 1: return F }",
             refused(2, Kind::TooMany),
         ),
+    ];
+    for (text, wanted) in rows {
+        assert_eq!(rt; outcome(rt.alloc(), text), wanted, "of {text:?}");
+    }
+}
+
+#[test]
+fn names_registers_and_texts(rt: HostRuntime) {
+    let rows = [
         (
             "fun f(a; b,\na) { 1: return 0 }",
             refused(2, Kind::NameTwice),
