@@ -2,11 +2,12 @@
 use Rattle.std.proofs.Common.{◌≡◌, ℕ, List, ◌∷◌, ◌++◌, sym, ap, ◌∙◌}
 use Rattle.std.specs.Prelude.{Some}
 use Rattle.cj_draft.specs.declared.code.Code.{Code}
-use Rattle.cj_codec.specs.Spelling.{body_words, spelling}
-use Rattle.cj_codec.specs.Ranges.{IsInRange}
-use Rattle.cj_codec.specs.Values.{HasValues}
-use Rattle.cj_codec.specs.Reading.{Read, body_at}
-use Rattle.cj_codec.proofs.Formats.{first_same, rest_same}
+use Rattle.cj_spelling.specs.Spelling.{body_words, spelling}
+use Rattle.cj_spelling.specs.Ranges.{IsInRange}
+use Rattle.cj_spelling.specs.Values.{HasValues}
+use Rattle.cj_spelling.specs.Formats.{Read}
+use Rattle.cj_codec.specs.Reading.{body_at}
+use Rattle.cj_spelling.proofs.Formats.{first_same, rest_same}
 use Rattle.cj_codec.proofs.CodeFormats.{body_reads}
 
 tails_same : (m n : ℕ) (v w : List ℕ) → m ∷ v ≡ n ∷ w → v ≡ w

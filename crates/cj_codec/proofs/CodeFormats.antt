@@ -7,12 +7,13 @@ use Rattle.std.proofs.lemmas.Bool.{ltb-true, lt-ltb, leb-true, le-leb, eqb-true,
 use Rattle.std.proofs.Math.Logic.{◌↔◌}
 use Rattle.cj_ir.specs.declared.language.FunId.{FunId}
 use Rattle.cj_draft.specs.declared.code.Code.{Code}
-use Rattle.cj_codec.specs.Spelling.{place_words, body_words, spelling}
-use Rattle.cj_codec.specs.Ranges.{IsPlaceInRange, IsInRange}
-use Rattle.cj_codec.specs.Values.{HasPlaceValues, HasValues}
-use Rattle.cj_codec.specs.Spells.{Spells}
-use Rattle.cj_codec.specs.Reading.{◌>>=◌, made, word_at, at_most_at, each_at, function_at, place_at, limits_of, code_of, places_at, code_at, body_at, whole, decoded}
-use Rattle.cj_codec.proofs.Formats.{bound, made_from, each_from, each_to, at_most_format, word_from, kind_from}
+use Rattle.cj_spelling.specs.Spelling.{place_words, body_words, spelling}
+use Rattle.cj_spelling.specs.Ranges.{IsPlaceInRange, IsInRange}
+use Rattle.cj_spelling.specs.Values.{HasPlaceValues, HasValues}
+use Rattle.cj_spelling.specs.Spells.{Spells}
+use Rattle.cj_spelling.specs.Formats.{◌>>=◌, made, word_at, at_most_at, each_at}
+use Rattle.cj_codec.specs.Reading.{function_at, place_at, limits_of, code_of, places_at, code_at, body_at, whole, decoded}
+use Rattle.cj_spelling.proofs.Formats.{bound, made_from, each_from, each_to, at_most_format, word_from, kind_from}
 use Rattle.cj_codec.proofs.OperandFormats.{function_format}
 use Rattle.cj_codec.proofs.PointFormats.{all_both, all_first, all_second}
 use Rattle.cj_codec.proofs.PlaceFormats.{InPlace, place_format}

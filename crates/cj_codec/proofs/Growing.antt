@@ -3,7 +3,7 @@ use Rattle.std.proofs.Common.{◌≡◌, ℕ, suc, ◌+◌, ◌-◌, ◌<◌, Li
 use Rattle.std.specs.Prelude.{Some, None}
 use Rattle.cj_codec.specs.declared.reader.ReadError.{ReadError}
 use Rattle.cj_codec.specs.declared.reader.ReadError.TheVariants.{NoSpelling, NoMemory}
-use Rattle.cj_codec.specs.Reading.{Read, Reading, ◌>>=◌, each_at, one_more_at}
+use Rattle.cj_spelling.specs.Formats.{Read, Reading, ◌>>=◌, each_at, one_more_at}
 use Rattle.cj_codec.specs.Answers.{Fails}
 
 taken : {X : Type 0} (one : Reading X) (n : ℕ) (r : Read X) (earlier : List X) → (r >>= λ x. each_at one n (earlier ++ x.0 ∷ []) x.1) ≡ (let more : X × List ℕ → Read (List X) = λ x. Some (earlier ++ x.0 ∷ [], x.1) in r >>= more) >>= λ y. each_at one n y.0 y.1

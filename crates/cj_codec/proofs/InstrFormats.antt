@@ -8,11 +8,12 @@ use Rattle.cj_draft.specs.declared.instructions.Pair.{Pair}
 use Rattle.cj_draft.specs.declared.instructions.VInstr.{VInstr}
 use Rattle.cj_draft.specs.declared.instructions.VInstr.TheVariants.{Nop, Op, Move, Cond, Call, Return, Print, Load, Store, Fail, Assume, Anchor}
 use Rattle.cj_codec.specs.declared.reader.Limits.{Limits}
-use Rattle.cj_codec.specs.Spelling.{operand_words, guard_words, counted, point_words, pair_words, expr_words, instr_words}
-use Rattle.cj_codec.specs.Ranges.{IsInstrInRange}
-use Rattle.cj_codec.specs.Values.{HasOperandValue, HasPairValue, HasGuardValue, HasInstrValues}
-use Rattle.cj_codec.specs.Reading.{made, counted_at, at_most_at, label_at, operand_at, guard_at, pair_of, pair_at, are_apart, pairs_at, op_at, move_at, cond_at, call_at, print_at, load_at, store_at, fail_at, assume_at, instr_by, instr_at}
-use Rattle.cj_codec.proofs.Formats.{IsFormat, made_from, only_format, same_format, at_most_format, one_word, two_reads, two_spells, three_reads, three_spells, four_reads, four_spells, counted_format, kind_from, by_kind, nothing_read, kinded}
+use Rattle.cj_spelling.specs.Spelling.{operand_words, guard_words, counted, point_words, pair_words, expr_words, instr_words}
+use Rattle.cj_spelling.specs.Ranges.{IsInstrInRange}
+use Rattle.cj_spelling.specs.Values.{HasOperandValue, HasPairValue, HasGuardValue, HasInstrValues}
+use Rattle.cj_spelling.specs.Formats.{made, counted_at, at_most_at}
+use Rattle.cj_codec.specs.Reading.{label_at, operand_at, guard_at, pair_of, pair_at, are_apart, pairs_at, op_at, move_at, cond_at, call_at, print_at, load_at, store_at, fail_at, assume_at, instr_by, instr_at}
+use Rattle.cj_spelling.proofs.Formats.{IsFormat, made_from, only_format, same_format, at_most_format, one_word, two_reads, two_spells, three_reads, three_spells, four_reads, four_spells, counted_format, kind_from, by_kind, nothing_read, kinded}
 use Rattle.cj_codec.proofs.OperandFormats.{function_words, label_words, reg_words, InOperand, function_format, label_format, base_label_format, reg_format, operand_format, expr_format, InGuard, guard_format}
 use Rattle.cj_codec.proofs.PointFormats.{all_both, all_first, all_second, few_operands_format, point_format}
 use Rattle.cj_codec.proofs.Differing.{differ_from, differ_to}

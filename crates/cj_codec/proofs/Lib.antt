@@ -1,6 +1,4 @@
-pub mod Capped
 pub mod Growing
-pub mod Formats
 pub mod OperandFormats
 pub mod PointFormats
 pub mod Differing
@@ -8,4 +6,3 @@ pub mod InstrFormats
 pub mod PlaceFormats
 pub mod CodeFormats
 pub mod Apart
-pub mod Named

@@ -15,10 +15,11 @@ use Rattle.cj_ir.specs.declared.language.Guard.{Guard}
 use Rattle.cj_ir.specs.declared.language.Guard.TheVariants.{Is, Never}
 use Rattle.cj_draft.specs.WellNamed.{IsGuardWithin}
 use Rattle.cj_codec.specs.declared.reader.Limits.{Limits}
-use Rattle.cj_codec.specs.Spelling.{value_word, operand_words, two_operands, expr_words, guard_words}
-use Rattle.cj_codec.specs.Values.{IsValue, HasOperandValue, HasExprValues, HasGuardValue}
-use Rattle.cj_codec.specs.Reading.{made, below_at, function_of, label_of, reg_of, function_at, label_at, base_label_at, reg_at, base_reg_at, value_at, operand_by, operand_at, operands_at, one_operand, two_operands_at, expr_by, expr_at, guard_by, guard_at}
-use Rattle.cj_codec.proofs.Formats.{IsFormat, made_format, made_from, below_format, two_reads, two_spells, kind_from, by_kind, nothing_read, kinded, first_same, rest_same}
+use Rattle.cj_spelling.specs.Spelling.{value_word, operand_words, two_operands, expr_words, guard_words}
+use Rattle.cj_spelling.specs.Values.{IsValue, HasOperandValue, HasExprValues, HasGuardValue}
+use Rattle.cj_spelling.specs.Formats.{made, below_at}
+use Rattle.cj_codec.specs.Reading.{function_of, label_of, reg_of, function_at, label_at, base_label_at, reg_at, base_reg_at, value_at, operand_by, operand_at, operands_at, one_operand, two_operands_at, expr_by, expr_at, guard_by, guard_at}
+use Rattle.cj_spelling.proofs.Formats.{IsFormat, made_format, made_from, below_format, two_reads, two_spells, kind_from, by_kind, nothing_read, kinded, first_same, rest_same}
 
 -- ---- single words
 

@@ -9,11 +9,12 @@ use Rattle.cj_draft.specs.declared.facts.Facts.TheVariants.{Unreached, Known}
 use Rattle.cj_draft.specs.declared.code.Back.{Back}
 use Rattle.cj_draft.specs.declared.code.Place.{Place}
 use Rattle.cj_codec.specs.declared.reader.Limits.{Limits}
-use Rattle.cj_codec.specs.Spelling.{counted, fact_words, facts_words, back_words, place_words}
-use Rattle.cj_codec.specs.Ranges.{IsBackInRange, IsPlaceInRange}
-use Rattle.cj_codec.specs.Values.{IsValue, HasFactValue, HasFactsValues, HasBackValues, HasPlaceValues}
-use Rattle.cj_codec.specs.Reading.{made, fact_of, fact_at, rise_from, known_at, facts_by, facts_at, back_of, back_at, place_of, place_at}
-use Rattle.cj_codec.proofs.Formats.{IsFormat, made_from, only_format, same_format, word_format, at_most_format, two_reads, two_spells, four_reads, four_spells, counted_format, kind_from, by_kind, nothing_read, kinded, first_same, rest_same}
+use Rattle.cj_spelling.specs.Spelling.{counted, fact_words, facts_words, back_words, place_words}
+use Rattle.cj_spelling.specs.Ranges.{IsBackInRange, IsPlaceInRange}
+use Rattle.cj_spelling.specs.Values.{IsValue, HasFactValue, HasFactsValues, HasBackValues, HasPlaceValues}
+use Rattle.cj_spelling.specs.Formats.{made}
+use Rattle.cj_codec.specs.Reading.{fact_of, fact_at, rise_from, known_at, facts_by, facts_at, back_of, back_at, place_of, place_at}
+use Rattle.cj_spelling.proofs.Formats.{IsFormat, made_from, only_format, same_format, word_format, at_most_format, two_reads, two_spells, four_reads, four_spells, counted_format, kind_from, by_kind, nothing_read, kinded, first_same, rest_same}
 use Rattle.cj_codec.proofs.OperandFormats.{reg_format, value_format}
 use Rattle.cj_codec.proofs.PointFormats.{all_both, all_first, all_second, point_format}
 use Rattle.cj_codec.proofs.InstrFormats.{instr_format}

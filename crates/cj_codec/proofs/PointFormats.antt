@@ -7,11 +7,12 @@ use Rattle.cj_ir.specs.declared.language.Operand.{Operand}
 use Rattle.cj_draft.specs.declared.points.PointFrame.{PointFrame}
 use Rattle.cj_draft.specs.declared.points.Point.{Point}
 use Rattle.cj_codec.specs.declared.reader.Limits.{Limits}
-use Rattle.cj_codec.specs.Spelling.{operand_words, counted, frame_words, point_words}
-use Rattle.cj_codec.specs.Ranges.{IsFrameInRange, HasPlainTop, IsPointInRange}
-use Rattle.cj_codec.specs.Values.{HasOperandValue, HasFrameValues, HasPointValues}
-use Rattle.cj_codec.specs.Reading.{only, counted_at, at_most_at, operand_at, frame_of, frame_at, has_plain_top, point_of, point_at}
-use Rattle.cj_codec.proofs.Formats.{IsFormat, made_format, only_format, same_format, at_most_format, four_reads, four_spells, counted_format}
+use Rattle.cj_spelling.specs.Spelling.{operand_words, counted, frame_words, point_words}
+use Rattle.cj_spelling.specs.Ranges.{IsFrameInRange, HasPlainTop, IsPointInRange}
+use Rattle.cj_spelling.specs.Values.{HasOperandValue, HasFrameValues, HasPointValues}
+use Rattle.cj_spelling.specs.Formats.{only, counted_at, at_most_at}
+use Rattle.cj_codec.specs.Reading.{operand_at, frame_of, frame_at, has_plain_top, point_of, point_at}
+use Rattle.cj_spelling.proofs.Formats.{IsFormat, made_format, only_format, same_format, at_most_format, four_reads, four_spells, counted_format}
 use Rattle.cj_codec.proofs.OperandFormats.{InOperand, function_format, base_label_format, base_reg_format, operand_format}
 
 pub all_both : {A : Type 0} (P Q : A → Type 0) (xs : List A) → All P xs → All Q xs → All (λ x. P x × Q x) xs

@@ -3,7 +3,7 @@ use Rattle.std.specs.Prelude.{◌≡◌, ℕ, List, Option, None, Some, Result, 
 use Rattle.cj_codec.specs.declared.reader.ReadError.{ReadError}
 use Rattle.cj_codec.specs.declared.reader.ReadError.TheVariants.{NoSpelling, NoMemory}
 use Rattle.cj_codec.specs.declared.reader.WordReader.{WordReader}
-use Rattle.cj_codec.specs.Reading.{Read}
+use Rattle.cj_spelling.specs.Formats.{Read}
 
 -- the words that are not read yet
 abbrev pub left : WordReader → List ℕ

@@ -1,7 +1,2 @@
-pub mod Spelling
-pub mod Ranges
-pub mod Values
-pub mod Counting
-pub mod Spells
 pub mod Reading
 pub mod Answers

@@ -2,7 +2,7 @@
 
 ghost use Rattle.std.specs.Prelude.{◌≡◌, []};
 ghost use Rattle.cj_codec.specs.declared.reader.Limits.{Limits};
-ghost use Rattle.cj_codec.specs.Reading.{Reading, each_at, one_more_at, counted_at, word_at, at_most_at};
+ghost use Rattle.cj_spelling.specs.Formats.{Reading, each_at, one_more_at, counted_at, word_at, at_most_at};
 ghost use Rattle.cj_codec.specs.Answers.{left, Gives, Grows};
 
 use crate::reader::{Limits, ReadError, WordReader, remembered};

@@ -1,8 +1,7 @@
-//! Codes in 64-bit words: their one spelling, and its reading.
+//! Codes read from 64-bit words.
 #![tactic(auto)]
 
 pub mod codes;
-pub mod counts;
 pub mod instructions;
 pub mod items;
 pub mod laws;
@@ -10,10 +9,8 @@ pub mod operands;
 pub mod places;
 pub mod points;
 pub mod reader;
-pub mod spelled;
 
-pub use codes::{EncodeError, MAX_WORDS, decode, encode, word_count};
-pub use spelled::{Spelled, Words};
+pub use codes::decode;
 
 #[cfg(test)]
 mod tests;

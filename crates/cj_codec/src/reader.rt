@@ -2,7 +2,8 @@
 
 ghost use Rattle.std.specs.Prelude.{◌≡◌, ◌<◌, ◌≤◌, Ok, IfOk, IfErr};
 ghost use Rattle.cj_codec.specs.declared.reader.ReadError.TheVariants as read_error;
-ghost use Rattle.cj_codec.specs.Reading.{word_at, below_at, at_most_at, value_at, function_at, label_at, base_label_at, reg_at, base_reg_at};
+ghost use Rattle.cj_spelling.specs.Formats.{word_at, below_at, at_most_at};
+ghost use Rattle.cj_codec.specs.Reading.{value_at, function_at, label_at, base_label_at, reg_at, base_reg_at};
 ghost use Rattle.cj_codec.specs.Answers.{left, Gives};
 
 use cj_ir::{FunId, Label, NoMemory, Reg};

@@ -1,83 +1,18 @@
 //! Spellings written by hand: the shortest one, one with each kind of instruction and expression, and the longest.
 
-ghost use Rattle.std.specs.Prelude.{◌≡◌, true, IfOk, IfSome};
-ghost use Rattle.cj_draft.specs.Bodies.{IsNoAnchor, HasNoAnchors};
-ghost use Rattle.cj_codec.specs.Ranges.{IsInRange};
+ghost use Rattle.std.specs.Prelude.{IfOk};
+ghost use Rattle.cj_spelling.specs.Ranges.{IsInRange};
 
 use super::*;
 use crate::codes::read_body;
-use crate::laws::named_code_is_in_range;
 use crate::reader::{ReadError, WordReader};
-use cj_draft::{Code, Draft, Place, VInstr, Version};
-use cj_ir::{
-    Checked, FunId, Function, Functions, Instr, Line, Lines, Name, Names, NoMemory, Operand,
-    Program, check,
-};
+use cj_draft::Code;
+use cj_spelling::{EncodeError, encode};
 use std::alloc::Global;
 use std::process::Abort;
 use std::test::Fail;
 
 const RETURN: [u64; 17] = [17, 1, 0, 0, 0, 1, 6, 1, 0, 1, 0, 0, 0, 0, 1, 0, 0];
-
-fn main_function(rt: &impl Abort, alloc: Global) -> Result<Function, Fail> {
-    let name = Name::of(alloc, "main".as_bytes())?.expect(rt, "a name");
-    let value = Operand::Const(0);
-    let mut code = Lines::new(alloc);
-    code.push(Line {
-        name: 1,
-        instr: Instr::Return { value },
-    })?;
-    Ok(Function {
-        name,
-        params: 0,
-        regs: Names::new(alloc),
-        code,
-    })
-}
-
-// `fun main() { 1: return 0 }`
-fn main_program(rt: &impl Abort, alloc: Global) -> Result<Program, Fail> {
-    let mut functions = Functions::new(alloc);
-    functions.push(main_function(rt, alloc)?)?;
-    Ok(Program { functions })
-}
-
-fn is_no_anchor(place: &Place) -> bool
-    ensures { result ≡ true → IsNoAnchor place.now.instr }
-{
-    match place.instr {
-        VInstr::Anchor { .. } => false,
-        _ => true,
-    }
-}
-
-fn has_no_anchors(code: &Code) -> bool
-    ensures { result ≡ true → HasNoAnchors code.now }
-{
-    for place in code.places.items() {
-        if !is_no_anchor(place) {
-            return false;
-        }
-    }
-    true
-}
-
-// A version is in range.
-fn words_of(alloc: Global, version: &Version<'_>) -> Result<Words, EncodeError> {
-    let code = version.code();
-    named_code_is_in_range(version.checked().program(), code);
-    encode(alloc, code)
-}
-
-// The words of the base draft of the first function.
-fn base_words(rt: &impl Abort, alloc: Global, checked: &Checked) -> Result<Words, Fail> {
-    assert!(rt; !checked.program().functions.items().is_empty());
-    let draft = Draft::of_base(alloc, checked, FunId(0))?;
-    let (checked, context, code) = draft.into_parts();
-    assert!(rt; has_no_anchors(&code));
-    let version = Version::adopt_in(checked, context, code);
-    Ok(words_of(alloc, &version)?)
-}
 
 // Whether the words spell a code, whose words they are.
 fn round_trips(rt: &impl Abort, alloc: Global, words: &[u64]) -> Result<bool, Fail> {
@@ -166,16 +101,8 @@ fn read_long(alloc: Global, words: &[u64]) -> Result<Code, ReadError>
 }
 
 #[test]
-fn one_return_takes_seventeen_words(rt: HostRuntime) -> Result<(), Fail> {
+fn one_return_is_read_from_its_seventeen_words(rt: HostRuntime) -> Result<(), Fail> {
     let alloc = rt.alloc();
-    let checked = match check(main_program(&rt, alloc)?) {
-        Ok(checked) => checked,
-        Err(_) => return Err(Fail::from(NoMemory)),
-    };
-    assert_eq!(rt;
-        base_words(&rt, alloc, &checked)?.items(),
-        RETURN.as_slice()
-    );
     assert!(rt; round_trips(&rt, alloc, &RETURN)?);
     assert!(rt; decode(alloc, &RETURN[..16])?.is_none());
     let longer = vec![in alloc; 17, 1, 0, 0, 0, 1, 6, 1, 0, 1, 0, 0, 0, 0, 1, 0, 0, 0]?;

@@ -12,7 +12,7 @@ use Rattle.cj_base.specs.Run.{Begun, begun}
 use Rattle.cj_draft.specs.Bodies.{Body}
 use Rattle.cj_draft.specs.declared.code.Code.{Code}
 use Rattle.cj_draft.specs.declared.passes.Skipped.{Skipped}
-use Rattle.cj_codec.specs.Counting.{capped}
+use Rattle.cj_spelling.specs.Counting.{capped}
 use Rattle.cj_calls.specs.declared.report.Look.{Look}
 use Rattle.cj_calls.specs.declared.report.Report.{Report}
 use Rattle.cj_engine.specs.Versions.{State, Codes}

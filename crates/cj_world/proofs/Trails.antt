@@ -8,7 +8,7 @@ use Rattle.cj_ir.specs.declared.language.Program.{Program}
 use Rattle.cj_base.specs.Run.{Begun, begun}
 use Rattle.cj_draft.specs.declared.code.Code.{Code}
 use Rattle.cj_draft.specs.declared.passes.Skipped.{Skipped}
-use Rattle.cj_codec.specs.Counting.{capped}
+use Rattle.cj_spelling.specs.Counting.{capped}
 use Rattle.cj_calls.specs.declared.report.Look.{Look}
 use Rattle.cj_engine.specs.Marks.{start_marks}
 use Rattle.cj_events.specs.declared.events.Event.{Event}

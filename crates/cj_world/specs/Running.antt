@@ -9,7 +9,7 @@ use Rattle.cj_base.specs.declared.machine.Turned.TheVariants.{Running, Ended}
 use Rattle.cj_base.specs.Run.{Begun, begun}
 use Rattle.cj_calls.specs.declared.report.Look.{Look}
 use Rattle.cj_calls.specs.declared.report.Report.{Report}
-use Rattle.cj_codec.specs.Counting.{capped}
+use Rattle.cj_spelling.specs.Counting.{capped}
 use Rattle.cj_engine.specs.Versions.{State, Codes, Progress, Continues, Finishes}
 use Rattle.cj_engine.specs.VersionRuns.{version_report, report_of}
 use Rattle.cj_engine.specs.Machines.{state_of}

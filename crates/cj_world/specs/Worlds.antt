@@ -6,8 +6,8 @@ use Rattle.cj_ir.specs.declared.language.Program.{Program}
 use Rattle.cj_base.specs.Run.{Begun}
 use Rattle.cj_draft.specs.declared.code.Code.{Code}
 use Rattle.cj_draft.specs.declared.passes.Skipped.{Skipped}
-use Rattle.cj_codec.specs.Counting.{capped}
-use Rattle.cj_codec.specs.Spelling.{spelling}
+use Rattle.cj_spelling.specs.Counting.{capped}
+use Rattle.cj_spelling.specs.Spelling.{spelling}
 use Rattle.cj_calls.specs.declared.report.Look.{Look}
 use Rattle.cj_engine.specs.Versions.{State, Codes, Progress, Continues, Finishes, Undefined, version_turn}
 use Rattle.cj_engine.specs.VersionRuns.{version_start}

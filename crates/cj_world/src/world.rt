@@ -4,7 +4,7 @@ ghost use Rattle.std.specs.Prelude.{◌≡◌, ◌+◌, ◌<◌, [], length, All
 ghost use Rattle.std.specs.List.{AllZip};
 ghost use Rattle.cj_ir.specs.declared.language.Program.{Program};
 ghost use Rattle.cj_base.specs.Run.{begun};
-ghost use Rattle.cj_codec.specs.Counting.{capped};
+ghost use Rattle.cj_spelling.specs.Counting.{capped};
 ghost use Rattle.cj_script.specs.Fitting.{FitsCall};
 ghost use Rattle.cj_events.specs.Fitting.{FitsEvent};
 ghost use Rattle.cj_events.specs.Tallies.{begun_by};
@@ -19,7 +19,7 @@ use crate::cache::Cache;
 use crate::played::{Compiled, CompiledList, Played, SkipLists};
 use crate::runs::Run;
 use cj_calls::Reports;
-use cj_codec::MAX_WORDS;
+use cj_spelling::MAX_WORDS;
 use cj_draft::{Passes, Version};
 use cj_engine::laws::{later_codes_keep_a_report, later_codes_keep_a_run};
 use cj_events::Event;
@@ -207,7 +207,7 @@ impl<'p> World<'p> {
 fn word_count(version: &Version<'_>) -> WordCount
     ensures { HasWords (words_in version.now.code) result }
 {
-    let len = cj_codec::word_count(version.code());
+    let len = cj_spelling::word_count(version.code());
     if len <= MAX_WORDS {
         WordCount::Few(len as u32)
     } else {

@@ -1,6 +1,6 @@
 use Rattle.std.proofs.Common.{◌≡◌, [], ◌-◌}
 use Rattle.cj_codec.specs.Answers.{left}
-use Rattle.cj_codec.specs.Reading.{each_at}
+use Rattle.cj_spelling.specs.Formats.{each_at}
 use Rattle.cj_codec.proofs.items.read_each.Given as goal
 
 abbrev pub invariant-more : goal.invariant-more

@@ -1,7 +1,7 @@
 //! Counts of words, which stop at the greatest number of 64 bits.
 
 ghost use Rattle.std.specs.Prelude.{◌≡◌, ◌+◌};
-ghost use Rattle.cj_codec.specs.Counting.{capped};
+ghost use Rattle.cj_spelling.specs.Counting.{capped};
 
 /// The sum of two counts.
 pub fn added(one: u64, other: u64) -> u64

@@ -2,8 +2,8 @@
 
 ghost use Rattle.std.specs.Prelude.{◌≡◌, ◌+◌, ◌++◌, ℕ, List, length, OnOk, All, ⊤, [], ◌∷◌};
 ghost use Rattle.std.specs.List.{flat_map};
-ghost use Rattle.cj_codec.specs.Counting.{capped};
-ghost use Rattle.cj_codec.specs.Spelling.{counted};
+ghost use Rattle.cj_spelling.specs.Counting.{capped};
+ghost use Rattle.cj_spelling.specs.Spelling.{counted};
 
 use crate::counts::added;
 use cj_ir::{FunId, Label, NoMemory, Reg, Sequence};

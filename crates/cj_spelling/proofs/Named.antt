@@ -21,7 +21,7 @@ use Rattle.cj_draft.specs.declared.code.Back.{Back}
 use Rattle.cj_draft.specs.declared.code.Place.{Place}
 use Rattle.cj_draft.specs.declared.code.Code.{Code}
 use Rattle.cj_draft.proofs.FewPairs.{few_pairs}
-use Rattle.cj_codec.specs.Ranges.{IsFrameInRange, HasPlainTop, IsPointInRange, IsInstrInRange, IsBackInRange, IsPlaceInRange, IsInRange}
+use Rattle.cj_spelling.specs.Ranges.{IsFrameInRange, HasPlainTop, IsPointInRange, IsInstrInRange, IsBackInRange, IsPlaceInRange, IsInRange}
 
 module _ (P : Program) (well : IsWellFormed P) where
   -- ---- functions that exist

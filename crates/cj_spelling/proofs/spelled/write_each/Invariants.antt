@@ -1,6 +1,6 @@
 use Rattle.std.proofs.Common.{◌≡◌, ◌++◌, All, take}
 use Rattle.std.specs.List.{flat_map}
-use Rattle.cj_codec.proofs.spelled.write_each.Given as goal
+use Rattle.cj_spelling.proofs.spelled.write_each.Given as goal
 
 abbrev pub invariant-each : goal.invariant-each
 invariant-each g l =

@@ -1,7 +1,7 @@
 use Rattle.std.proofs.Common.{◌≡◌, ◌+◌, length, take}
 use Rattle.std.specs.List.{flat_map}
-use Rattle.cj_codec.specs.Counting.{capped}
-use Rattle.cj_codec.proofs.spelled.count_each.Given as goal
+use Rattle.cj_spelling.specs.Counting.{capped}
+use Rattle.cj_spelling.proofs.spelled.count_each.Given as goal
 
 abbrev pub invariant-each : goal.invariant-each
 invariant-each g l =

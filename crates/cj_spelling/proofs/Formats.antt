@@ -5,8 +5,8 @@ use Rattle.std.specs.List.{flat_map}
 use Rattle.std.proofs.lemmas.List.{append-nil}
 use Rattle.std.proofs.lemmas.List.Elements.{All-cons, All-nil, All-tail, All-head}
 use Rattle.std.proofs.lemmas.Bool.{ltb-true, lt-ltb, leb-true, le-leb, eqb-true}
-use Rattle.cj_codec.specs.Spelling.{counted}
-use Rattle.cj_codec.specs.Reading.{Read, Reading, ◌>>=◌, made, only, two_at, three_at, four_at, each_at, counted_at, word_at, below_at, at_most_at}
+use Rattle.cj_spelling.specs.Spelling.{counted}
+use Rattle.cj_spelling.specs.Formats.{Read, Reading, ◌>>=◌, made, only, two_at, three_at, four_at, each_at, counted_at, word_at, below_at, at_most_at}
 
 pub record IsFormat {A : Type 0} (In : A → Type 0) (spell : A → List ℕ) (read : Reading A) : Type 0 where
   pub reads : (x : A) (rest : List ℕ) → In x → read (spell x ++ rest) ≡ Some (x, rest)

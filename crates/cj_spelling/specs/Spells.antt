@@ -1,12 +1,12 @@
 -- What words spell.
 use Rattle.std.specs.Prelude.{◌≡◌, ℕ, ◌<◌, ◌≤◌, List, length}
 use Rattle.cj_draft.specs.declared.code.Code.{Code}
-use Rattle.cj_codec.specs.declared.codes.EncodeError.{EncodeError}
-use Rattle.cj_codec.specs.declared.codes.EncodeError.TheVariants.{TooLarge, NoMemory}
-use Rattle.cj_codec.specs.Counting.{capped}
-use Rattle.cj_codec.specs.Spelling.{spelling}
-use Rattle.cj_codec.specs.Ranges.{IsInRange}
-use Rattle.cj_codec.specs.Values.{HasValues}
+use Rattle.cj_spelling.specs.declared.codes.EncodeError.{EncodeError}
+use Rattle.cj_spelling.specs.declared.codes.EncodeError.TheVariants.{TooLarge, NoMemory}
+use Rattle.cj_spelling.specs.Counting.{capped}
+use Rattle.cj_spelling.specs.Spelling.{spelling}
+use Rattle.cj_spelling.specs.Ranges.{IsInRange}
+use Rattle.cj_spelling.specs.Values.{HasValues}
 
 -- The words are the code's spelling, at most 65,536, and the code is in range.
 pub record Spells (words : List ℕ) (code : Code) : Type 0 where

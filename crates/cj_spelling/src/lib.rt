@@ -1,0 +1,17 @@
+//! Codes in 64-bit words: the one spelling of each.
+#![tactic(auto)]
+
+pub mod codes;
+pub mod counts;
+pub mod instructions;
+pub mod laws;
+pub mod operands;
+pub mod places;
+pub mod points;
+pub mod spelled;
+
+pub use codes::{EncodeError, MAX_WORDS, encode, word_count};
+pub use spelled::{Spelled, Words};
+
+#[cfg(test)]
+mod tests;
