@@ -169,6 +169,7 @@ impl<'p> Engine<'p> {
     }
 
     // The turn of the top, which stands at that position.
+    #[inline(always)]
     fn turn_at<W: Watch>(&mut self, position: Position, watch: &mut W) -> Result<Turned, NoMemory>
         requires ready { W.ready watch.old }
         requires program { W.program watch.old ≡ self.old.checked.now }
@@ -213,6 +214,7 @@ impl<'p> Engine<'p> {
     }
 
     // What is left to do after an instruction at that label.
+    #[inline(always)]
     fn carry<W: Watch>(
         &mut self,
         step: Step,

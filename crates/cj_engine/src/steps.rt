@@ -62,6 +62,7 @@ impl From<Turned> for Step {
 
 impl Machine {
     /// The instruction at which a base frame stands.
+    #[inline(always)]
     pub(crate) fn step_base(
         &mut self,
         instr: &Instr,
@@ -107,6 +108,7 @@ impl Machine {
     }
 
     /// The instruction of the place at which a version stands.
+    #[inline(always)]
     pub(crate) fn step_version(
         &mut self,
         instr: &VInstr,

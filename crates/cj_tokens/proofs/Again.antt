@@ -70,7 +70,7 @@ run_all p (b ∷ bs) rest a s =
 letter_starts : (b : ℕ) → is_letter b ≡ true → is_start b ≡ true
 letter_starts b h = grind (arith, nat_tests)
 
-letter_no_number : (b : ℕ) (bs : List ℕ) → is_letter b ≡ true → begins_number b bs ≡ false
+pub letter_no_number : (b : ℕ) (bs : List ℕ) → is_letter b ≡ true → begins_number b bs ≡ false
 letter_no_number b bs h =
     let d : is_ascii_digit b ≡ false = grind (arith, nat_tests) in
     let m : is_minus b ≡ false = grind (arith, nat_tests) in

@@ -1,9 +1,11 @@
 -- What is looked up in the tables of keywords and marks.
-use Rattle.std.proofs.Common.{◌≡◌, ℕ, Bool, true, false, cond, List, [], ◌∷◌, refl}
+use Rattle.std.proofs.Common.{◌≡◌, ◌<◌, ◌≤◌, ℕ, Bool, true, false, cond, List, [], ◌∷◌, length, get_or, refl, arith}
 use Rattle.std.specs.Prelude.{◌||◌, not, nat_eq}
 use Rattle.std.specs.List.{list_all, list_any}
 use Rattle.std.specs.Str.{bytes_eq}
 use Rattle.cj_ir.specs.Texts.{is_keyword}
+use Rattle.cj_tokens.specs.Beginnings.{beginning}
+use Rattle.cj_tokens.specs.Bytes.{begins}
 use Rattle.cj_tokens.specs.Lexemes.{number_of}
 use Rattle.cj_tokens.specs.Spellings.{lookup, keyword_table, mark_table, word_terminal, mark_terminal}
 use Rattle.cj_tokens.specs.declared.terminal.Terminal.{Terminal}
@@ -69,3 +71,36 @@ not_true false h = refl
 pub free_is_name : (t : List ℕ) → not (is_keyword t) ≡ true → word_terminal t ≡ Name
 unfolding keyword_table
 free_is_name t h = lookup_none keyword_table Name t (not_true (is_keyword t) h)
+
+-- a spelling of a table with that first byte stands among those that begin with it
+pub lookup_first : (table : Table) (other : Terminal) (b : ℕ) (bs : List ℕ) → lookup (beginning b table) other (b ∷ bs) ≡ lookup table other (b ∷ bs)
+unfolding beginning
+lookup_first [] other b bs = refl
+lookup_first (([], t) ∷ es) other b bs = lookup_first es other b bs
+lookup_first ((c ∷ cs, t) ∷ es) other b bs = go (nat_eq c b) refl (lookup_first es other b bs)
+  where
+    go : (v : Bool) → nat_eq c b ≡ v → lookup (beginning b es) other (b ∷ bs) ≡ lookup es other (b ∷ bs) → lookup (cond v ((c ∷ cs, t) ∷ beginning b es) (beginning b es)) other (b ∷ bs) ≡ lookup ((c ∷ cs, t) ∷ es) other (b ∷ bs)
+    go true e i = rw i refl
+    go false e i = rw e i
+
+-- the byte begins no spelling of a table
+abbrev pub begins_none : ℕ → Table → Bool
+begins_none b table = list_all (λ e. not (begins (λ c. nat_eq c b) e.0)) table
+
+pub none_beginning : (b : ℕ) (table : Table) → begins_none b table ≡ true → beginning b table ≡ []
+unfolding beginning
+none_beginning b [] h = refl
+none_beginning b (e ∷ es) h =
+    let p : (not (begins (λ c. nat_eq c b) e.0) ≡ true) × (begins_none b es ≡ true) = and_true (not (begins (λ c. nat_eq c b) e.0)) (begins_none b es) h in
+    rw (not_true (begins (λ c. nat_eq c b) e.0) p.0) (none_beginning b es p.1)
+
+-- no bytes are a name
+pub no_word : (t : List ℕ) → length t < 1 → word_terminal t ≡ Name
+unfolding keyword_table
+no_word [] h = refl
+no_word (b ∷ bs) h = absurd (omega arith)
+
+-- a word's keyword stands among those that begin as it does
+pub word_beginning : (t : List ℕ) → 1 ≤ length t → lookup (beginning (get_or t 0 0) keyword_table) Name t ≡ word_terminal t
+word_beginning [] h = absurd (omega arith)
+word_beginning (b ∷ bs) h = lookup_first keyword_table Name b bs

@@ -1,4 +1,5 @@
 pub mod Lexemes
+pub mod Beginnings
 pub mod Bytes
 pub mod Spellings
 pub mod Scan

@@ -1,8 +1,10 @@
 //! What a token is, told by its bytes.
 
-ghost use Rattle.std.specs.Prelude.{◌≡◌, min, cond, Some, None, map, nat_le, neg_ℤ, pos};
+ghost use Rattle.std.specs.Prelude.{◌≡◌, [], ◌∷◌, length, ◌==◌, min, cond, Some, None, map, nat_le, neg_ℤ, pos};
 ghost use Rattle.cj_tokens.specs.Spellings.{begins_number, word_terminal, mark_terminal, terminal_of, lexeme_of, text_of, number_value, fits_i64, value, worth, lookup, keyword_table, mark_table};
+ghost use Rattle.cj_tokens.specs.Beginnings.{beginning};
 ghost use Rattle.cj_tokens.specs.Seen.{seen};
+ghost use Rattle.cj_tokens.specs.declared.terminal.Terminal.TheVariants.{BadCharacter, Text};
 
 use crate::lexeme::Lexeme;
 use crate::terminal::Terminal;
@@ -13,11 +15,12 @@ use cj_ir::texts::is_letter;
 pub(crate) fn lexeme<'a>(spelling: &'a [u8], line: u32) -> Lexeme<'a>
     ensures { seen result ≡ lexeme_of line spelling.now }
 {
+    let (terminal, number) = terminal(spelling);
     Lexeme {
-        terminal: terminal(spelling),
+        terminal,
         line,
         text: text(spelling),
-        number: worth(spelling),
+        number,
     }
 }
 
@@ -28,29 +31,37 @@ pub(crate) fn begins_number(first: u8, rest: &[u8]) -> bool
         || (first == b'-' && rest.first().is_some_and(|byte| byte.is_ascii_digit()))
 }
 
-#[tactic(auto, unfolding(crate::specs::Spellings::terminal_of))]
-fn terminal(spelling: &[u8]) -> Terminal
-    ensures { result ≡ terminal_of spelling.now }
+// What the token is, with the value of a number; 0 of any other token, and of a number that no i64 is.
+#[tactic(auto, using(crate::proofs::Again::letter_no_number), unfolding(crate::specs::Spellings::terminal_of, crate::specs::Spellings::worth))]
+fn terminal(spelling: &[u8]) -> (Terminal, i64)
+    ensures terminal { result.0 ≡ terminal_of spelling.now }
+    ensures number { result.1 ≡ worth spelling.now }
 {
     let [first, rest @ ..] = spelling else {
-        return Terminal::End;
+        return (Terminal::End, 0);
     };
     if is_letter(*first) {
-        word_terminal(spelling)
+        (word_terminal(spelling), 0)
     } else if begins_number(*first, rest) {
-        if number(spelling).is_some() {
-            Terminal::Number
-        } else {
-            Terminal::BadNumber
+        match number(spelling) {
+            Some(value) => (Terminal::Number, value),
+            None => (Terminal::BadNumber, 0),
         }
     } else if *first == b'"' {
-        if rest.is_empty() {
-            Terminal::BadCharacter
-        } else {
-            Terminal::Text
-        }
+        (quoted(rest), 0)
     } else {
-        mark_terminal(spelling)
+        (mark_terminal(spelling), 0)
+    }
+}
+
+// What stands behind a quote makes a text of it, or the quote begins no token.
+fn quoted(behind: &[u8]) -> Terminal
+    ensures { result ≡ cond (length behind.now == 0) BadCharacter Text }
+{
+    if behind.is_empty() {
+        Terminal::BadCharacter
+    } else {
+        Terminal::Text
     }
 }
 
@@ -67,48 +78,56 @@ fn text(spelling: &[u8]) -> &[u8]
 }
 
 // A keyword's terminal; any other word is a name.
-#[tactic(auto, unfolding(crate::specs::Spellings::keyword_table))]
+#[tactic(auto, using(crate::proofs::Tables::lookup_first))]
 fn word_terminal(word: &[u8]) -> Terminal
     ensures { result ≡ word_terminal word.now }
 {
-    lookup(
-        &[
-            ("fun", Terminal::Fun),
-            ("nop", Terminal::Nop),
-            ("op", Terminal::Op),
+    match word {
+        [] => Terminal::Name,
+        [first, ..] => lookup(keywords_from(*first), Terminal::Name, word),
+    }
+}
+
+// The keywords that begin with the byte.
+fn keywords_from(first: u8) -> &'static [(&'static str, Terminal)]
+    ensures { map (λ e. (e.0.now, e.1)) result.now ≡ beginning first keyword_table }
+{
+    match first {
+        b'a' => &[("anchors", Terminal::Anchors), ("assume", Terminal::Assume)],
+        b'b' => &[("begin", Terminal::Begin)],
+        b'c' => &[
             ("cond", Terminal::Cond),
             ("call", Terminal::Call),
-            ("return", Terminal::Return),
-            ("print", Terminal::Print),
-            ("load", Terminal::Load),
-            ("store", Terminal::Store),
-            ("fail", Terminal::Fail),
-            ("neg", Terminal::Neg),
-            ("eqz", Terminal::Eqz),
             ("calls", Terminal::Calls),
-            ("guess", Terminal::Guess),
             ("cold", Terminal::Cold),
-            ("then", Terminal::Then),
-            ("else", Terminal::Else),
-            ("warm", Terminal::Warm),
-            ("memory", Terminal::Memory),
-            ("limit", Terminal::Limit),
-            ("events", Terminal::Events),
-            ("begin", Terminal::Begin),
-            ("step", Terminal::Step),
             ("compile", Terminal::Compile),
-            ("anchors", Terminal::Anchors),
-            ("assume", Terminal::Assume),
-            ("delay", Terminal::Delay),
             ("const", Terminal::Const),
-            ("inline", Terminal::Inline),
-            ("when", Terminal::When),
-            ("never", Terminal::Never),
-            ("keep", Terminal::Keep),
         ],
-        Terminal::Name,
-        word,
-    )
+        b'd' => &[("delay", Terminal::Delay)],
+        b'e' => &[
+            ("eqz", Terminal::Eqz),
+            ("else", Terminal::Else),
+            ("events", Terminal::Events),
+        ],
+        b'f' => &[("fun", Terminal::Fun), ("fail", Terminal::Fail)],
+        b'g' => &[("guess", Terminal::Guess)],
+        b'i' => &[("inline", Terminal::Inline)],
+        b'k' => &[("keep", Terminal::Keep)],
+        b'l' => &[("load", Terminal::Load), ("limit", Terminal::Limit)],
+        b'm' => &[("memory", Terminal::Memory)],
+        b'n' => &[
+            ("nop", Terminal::Nop),
+            ("neg", Terminal::Neg),
+            ("never", Terminal::Never),
+        ],
+        b'o' => &[("op", Terminal::Op)],
+        b'p' => &[("print", Terminal::Print)],
+        b'r' => &[("return", Terminal::Return)],
+        b's' => &[("store", Terminal::Store), ("step", Terminal::Step)],
+        b't' => &[("then", Terminal::Then)],
+        b'w' => &[("warm", Terminal::Warm), ("when", Terminal::When)],
+        _ => &[],
+    }
 }
 
 // A mark's terminal; any other byte begins no token.
@@ -116,29 +135,37 @@ fn word_terminal(word: &[u8]) -> Terminal
 fn mark_terminal(mark: &[u8]) -> Terminal
     ensures { result ≡ mark_terminal mark.now }
 {
-    lookup(
-        &[
-            ("(", Terminal::OpenParen),
-            (")", Terminal::CloseParen),
-            ("{", Terminal::OpenBrace),
-            ("}", Terminal::CloseBrace),
-            ("[", Terminal::OpenBracket),
-            ("]", Terminal::CloseBracket),
-            (",", Terminal::Comma),
-            (";", Terminal::Semicolon),
-            (":", Terminal::Colon),
-            ("=", Terminal::Equals),
-            ("+", Terminal::Plus),
-            ("-", Terminal::Minus),
-            ("*", Terminal::Star),
-            ("/", Terminal::Slash),
-            ("%", Terminal::Percent),
-            ("<", Terminal::Less),
-            ("->", Terminal::Arrow),
-        ],
-        Terminal::BadCharacter,
-        mark,
-    )
+    match mark {
+        [b'-', b'>'] => Terminal::Arrow,
+        [byte] => one_byte_mark(*byte),
+        _ => Terminal::BadCharacter,
+    }
+}
+
+// The terminal of a mark of that one byte.
+#[tactic(auto, unfolding(crate::specs::Spellings::mark_table))]
+fn one_byte_mark(byte: u8) -> Terminal
+    ensures { result ≡ mark_terminal (byte ∷ []) }
+{
+    match byte {
+        b'(' => Terminal::OpenParen,
+        b')' => Terminal::CloseParen,
+        b'{' => Terminal::OpenBrace,
+        b'}' => Terminal::CloseBrace,
+        b'[' => Terminal::OpenBracket,
+        b']' => Terminal::CloseBracket,
+        b',' => Terminal::Comma,
+        b';' => Terminal::Semicolon,
+        b':' => Terminal::Colon,
+        b'=' => Terminal::Equals,
+        b'+' => Terminal::Plus,
+        b'-' => Terminal::Minus,
+        b'*' => Terminal::Star,
+        b'/' => Terminal::Slash,
+        b'%' => Terminal::Percent,
+        b'<' => Terminal::Less,
+        _ => Terminal::BadCharacter,
+    }
 }
 
 // The terminal beside the spelling in a table; where it is not in it, another.
@@ -149,17 +176,6 @@ fn lookup(table: &[(&str, Terminal)], other: Terminal, spelling: &[u8]) -> Termi
         [] => other,
         [(word, terminal), ..] if word.as_bytes() == spelling => *terminal,
         [_, rest @ ..] => lookup(rest, other, spelling),
-    }
-}
-
-// The value of a number; 0 of any other token, and of a number that no i64 is.
-#[tactic(auto, unfolding(crate::specs::Spellings::worth))]
-fn worth(spelling: &[u8]) -> i64
-    ensures { result ≡ worth spelling.now }
-{
-    match spelling {
-        [first, rest @ ..] if begins_number(*first, rest) => number(spelling).unwrap_or(0),
-        _ => 0,
     }
 }
 
@@ -187,8 +203,10 @@ fn magnitude(digits: &[u8]) -> u64
 {
     let mut worth: u64 = 0;
     for byte in digits {
-        let next = 10 * worth as u128 + byte.saturating_sub(48) as u128;
-        worth = next.min(9_223_372_036_854_775_809) as u64;
+        let next = worth
+            .saturating_mul(10)
+            .saturating_add(byte.saturating_sub(48) as u64);
+        worth = next.min(9_223_372_036_854_775_809);
     }
     worth
 }
