@@ -194,7 +194,7 @@ unfolding give
 give_freely v [] m = λ e. cc
 give_freely v (w ∷ ws) m = tt
 
-fault_freely : (fault : Fault) → end_of fault ≢ TurnLimit
+pub fault_freely : (fault : Fault) → end_of fault ≢ TurnLimit
 unfolding end_of
 fault_freely (FailedAt f l) = λ e. cc
 fault_freely (BadAddress a) = λ e. cc

@@ -1,24 +1,19 @@
 -- A top call's answer from its two halves.
-use Rattle.std.proofs.Common.{◌≡◌, ◌∙◌, sym, subst, refl, ℕ, ◌+◌, ◌<◌, ◌≤◌, List, [], ◌++◌, length, take, Option, Some, None, Result, Ok, Err, inl, inr, append-nil, arith}
+use Rattle.std.proofs.Common.{◌≡◌, ◌∙◌, sym, subst, refl, ℕ, ◌+◌, ◌<◌, ◌≤◌, List, [], length, Option, Some, None, Result, Ok, Err, inl, inr, arith}
 use Rattle.std.specs.Prelude.{◌≢◌, ◌⊎◌, IfSome}
-use Rattle.std.specs.Io.KnownBytes.{Appends, IsAtEnd}
+use Rattle.std.specs.Io.KnownBytes.{Appends}
 use Rattle.cj_tokens.specs.declared.refusal.Refused.{Refused}
-use Rattle.cj_io.specs.Faults.{Rose}
+use Rattle.cj_io.proofs.Known.{Appends-none}
 use Rattle.cj_io.specs.Reading.{GaveMore}
 use Rattle.cj_calls.specs.declared.report.Report.{Report}
-use Rattle.cj_driver.specs.Outside.{Outside, outside, longest, AreWhole, WasRead, ToldWhole, ToldMore}
+use Rattle.cj_driver.specs.Outside.{Outside, outside, longest, AreWhole}
 use Rattle.cj_driver.specs.Texts.{TextOf, ReadsAs, WasText, Owes, OwesSummary}
-use Rattle.cj_driver.specs.Answers.{HasAnswer, IsStop, TopStands, IsStatus, WasRefused, HasCauses, IsCalm, IsComplete, Answers, AnswersBench}
+use Rattle.cj_driver.specs.Answers.{HasAnswer, TopStands, IsStatus, HasCauses, Answers, AnswersBench}
 use Rattle.cj_driver.specs.Steps.{StopStands, Finishes, StopFinishes, Writes}
 use Rattle.cj_driver.specs.declared.command.Task.{Task}
 use Rattle.cj_driver.specs.declared.finish.Finish.{Finish}
 use Rattle.cj_driver.specs.declared.reading.Stop.{Stop}
 use Rattle.cj_driver.specs.declared.reading.Stop.TheVariants as stop
-
--- a sink that was not touched took nothing
-took_nothing : (known : Option (List ℕ)) → Appends known known []
-took_nothing None = tt
-took_nothing (Some bytes) = sym (append-nil bytes)
 
 -- ---- what reading told
 
@@ -83,7 +78,7 @@ wanted IsOwed had faults f status refused reports = record {
   done = λ s. let never : 6 ≡ 0 = sym status ∙ s in absurd (omega arith);
   cut = λ s. let never : 6 ≡ 5 = sym status ∙ s in absurd (omega arith);
   fault = λ s. let never : 6 ≡ 5 = sym status ∙ s in absurd (omega arith);
-  none = λ s. (reports, took_nothing had);
+  none = λ s. (reports, Appends-none had);
 }
 
 zero_five_six : (s : ℕ) → (s ≡ 0) ⊎ (s ≡ 5) ⊎ (s ≡ 6) → s ≢ 0 → s ≢ 5 → s ≡ 6
@@ -230,4 +225,4 @@ stop_answers t o stop.NoMemory f nothing stands fin = record {
 -- a call that stopped before it touched the sink
 pub stopped : (t : Task) (given left had : Option (List ℕ)) (faults faults_now writes : ℕ) (s : Stop) (f : Finish) → StopStands t given left faults faults_now s → StopFinishes s f → Answers t (outside given left had had faults faults_now writes writes) f
 stopped t given left had faults faults_now writes s f stands fin =
-    stop_answers t (outside given left had had faults faults_now writes writes) s f (took_nothing had) stands fin
+    stop_answers t (outside given left had had faults faults_now writes writes) s f (Appends-none had) stands fin

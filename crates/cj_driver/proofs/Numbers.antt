@@ -1,6 +1,5 @@
 -- What the digits of a word write.
-use Rattle.std.proofs.Common.{rules, arith, ◌≡◌, refl, ap, sym, ◌∙◌, ℕ, ◌<◌, ◌≤◌, ◌^◌, ◌&&◌, true, List, [], ◌∷◌, length, Option, Some, None, Result, Ok, Err}
-use Rattle.std.specs.Prelude.{nat_le}
+use Rattle.std.proofs.Common.{rules, arith, ◌≡◌, refl, ap, sym, ◌∙◌, ℕ, ◌<◌, ◌≤◌, ◌^◌, ◌&&◌, true, List, [], ◌∷◌, length, Some, None, Result, Ok, Err}
 use Rattle.std.specs.Char.{is_ascii_digit}
 use Rattle.std.specs.List.{list_all}
 use Rattle.std.specs.Str.{all_ascii_digits}
@@ -9,7 +8,6 @@ use Rattle.std.proofs.lemmas.Bool.Decides.{nat_tests}
 use Rattle.std.proofs.lemmas.Str.Parse.{IsNumeralModel, numerals_by_fold, parse_gives, digits_value_short}
 use Rattle.cj_tokens.specs.Spellings.{value}
 use Rattle.cj_driver.specs.Commands.{is_bench_number, bench_of}
-use Rattle.cj_driver.specs.declared.command.Command.{Command}
 use Rattle.cj_driver.specs.declared.command.Command.TheVariants.{Bench}
 
 own : IsNumeralModel (λ ds. all_ascii_digits ds ≡ true) (value 0)

@@ -1,5 +1,4 @@
 pub mod Commands
-pub mod Bodies
 pub mod Calls
 pub mod Outside
 pub mod Texts

@@ -31,7 +31,7 @@ impl<'p> BaseBodies<'p> {
 impl<'p> Watch for BaseBodies<'p> {
     ghost use Rattle.std.specs.Prelude.{⊤};
     ghost use Rattle.cj_engine.specs.CodeMaps.{no_codes, IsPlainTrail};
-    ghost use Rattle.cj_driver.specs.Bodies.{no_codes_sound};
+    ghost use Rattle.cj_engine.specs.NoCodes.{no_codes_sound};
 
     ghost program = { λ s. s.checked.now };
 

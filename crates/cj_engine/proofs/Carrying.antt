@@ -1,6 +1,7 @@
 -- What is left to do after an instruction: entries and returns.
 use Rattle.std.proofs.Common.{◌≡◌, ◌≢◌, ◌∙◌, refl, sym, ap, subst, ℕ, ◌+◌, ◌<◌, List, [], ◌∷◌, ◌++◌, length, Option, None, Some, ℤ, length-append, append-nil}
 use Rattle.std.specs.Prelude.{slice_get}
+use Rattle.cj_ir.proofs.ListReads.{get-append_end}
 use Rattle.cj_ir.specs.Program.{reg_count}
 use Rattle.cj_ir.specs.declared.language.FunId.{FunId}
 use Rattle.cj_ir.specs.declared.language.Label.{Label}
@@ -42,10 +43,6 @@ unfolding active_at version_entry
 version_entered P codes f offset code args not found =
     enters_version P codes _ (record { function = f; offset = offset }) f args code refl refl not found
 
-last_got : {A : Type 0} (xs : List A) (x : A) → slice_get (xs ++ x ∷ []) (length xs) ≡ Some x
-last_got [] x = refl
-last_got (y ∷ xs) x = last_got xs x
-
 paused_same : (a : Active) (dest : Reg) (next : Label) → versions.paused a next dest ≡ changes.paused a dest next
 unfolding versions.paused changes.paused
 paused_same (InBase fr) dest next = refl
@@ -59,7 +56,7 @@ pub call_made : (P : Program) (codes : Codes) (s : State) (looks now_looks : Lis
     ≡ Continues (record s { stack = stack; turns = s.turns + 1; base_turns = s.base_turns + 1; entries = length now_looks })
 unfolding called entered counted
 call_made P codes s looks now_looks look dest f args next position count stack more same enter is =
-    let got : slice_get now_looks (length looks) ≡ Some look = ap (λ (xs : List Look). slice_get xs (length looks)) more ∙ last_got looks look in
+    let got : slice_get now_looks (length looks) ≡ Some look = ap (λ (xs : List Look). slice_get xs (length looks)) more ∙ get-append_end looks look in
     let size : length now_looks ≡ s.entries + 1 = ap length more ∙ length-append looks (look ∷ []) ∙ ap (λ n. n + 1) (sym same) in
     turn_enters P codes (slice_get now_looks (length looks)) s s.stack.top (active_at position (entry_regs count args)) dest f args next
     (ap (λ o. versions.entered P codes o f args) got ∙ enter)

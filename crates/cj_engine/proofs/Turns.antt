@@ -24,7 +24,7 @@ use Rattle.cj_base.specs.Same.{Same}
 use Rattle.cj_base.specs.Run.{Begun, ran, RunAt, EndStands}
 use Rattle.cj_base.proofs.SameLaws.{same_refl}
 use Rattle.cj_base.proofs.Segments.{lift_fault, run_segment, run_same, After}
-use Rattle.cj_base.proofs.FitsLemmas.{fine_at}
+use Rattle.cj_base.proofs.FitsLemmas.{fine_at, fault_freely}
 use Rattle.cj_draft.specs.declared.points.Point.{Point}
 use Rattle.cj_draft.specs.declared.code.Back.{Back}
 use Rattle.cj_draft.specs.declared.code.Place.{Place}
@@ -67,12 +67,6 @@ call_turn P stack f args c m =
 
 returned_no_limit : (value : ℤ) → Returned value ≢ TurnLimit
 returned_no_limit value = λ e. cc
-
-fault_no_limit : (fault : Fault) → end_of fault ≢ TurnLimit
-unfolding end_of
-fault_no_limit (FailedAt f label) = λ e. cc
-fault_no_limit (BadAddress a) = λ e. cc
-fault_no_limit ZeroDivisor = λ e. cc
 
 -- the row ahead of a label where an Assume or Anchor stands is not empty
 row_ahead : (code : Code) (row : ℕ) (label : Label) (place : Place) (next : Label) → place_at code label ≡ Some place → guard_next place.instr ≡ Some next → RowWithin code row label → (k : ℕ) × (row ≡ suc k) × RowWithin code k next
@@ -225,7 +219,7 @@ module _ (P : Program) (codes : Codes) (call : Begun) (formed : IsWellFormed P) 
       returns_holds s since row stack below h value s.stack.waiting below h.waiting (omega arith) (run_segment P call s.base_turns s.printed stack below s.memory (Ends (Returned value)) h.run o)
   by_holds s since row stack below h look top same_top same_waiting (Faults fault) o =
       let run' = run_segment P call s.base_turns s.printed stack below s.memory (Ends (end_of fault)) h.run o in
-      ends_holds s since row stack below h (end_of fault) (fault_no_limit fault) s.stack (subst (After P call (s.base_turns + 1) s.printed) (lift_fault fault below s.memory) run')
+      ends_holds s since row stack below h (end_of fault) (fault_freely fault) s.stack (subst (After P call (s.base_turns + 1) s.printed) (lift_fault fault below s.memory) run')
 
   -- ---- a base frame's turn
 

@@ -2,6 +2,7 @@ pub mod Versions
 pub mod VersionRuns
 pub mod Marks
 pub mod CodeMaps
+pub mod NoCodes
 pub mod Stands
 pub mod Watching
 pub mod Machines

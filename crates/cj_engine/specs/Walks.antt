@@ -5,11 +5,7 @@ use Rattle.cj_base.specs.Run.{Begun}
 use Rattle.cj_calls.specs.declared.report.Look.{Look}
 use Rattle.cj_engine.specs.Versions.{State}
 use Rattle.cj_engine.specs.Engines.{IsRun}
-use Rattle.cj_engine.specs.CodeMaps.{SoundCodes, no_codes}
-
-pub no_codes_sound : (P : Program) → SoundCodes P no_codes
-unfolding no_codes
-no_codes_sound P f offset code found = let never : ⊥ = cc in absurd never
+use Rattle.cj_engine.specs.CodeMaps.{no_codes}
 
 -- the run of some call with this limit goes on
 pub record Walks (P : Program) (looks : List Look) (limit : ℕ) (s : State) : Type 0 where

@@ -4,7 +4,8 @@ ghost use Rattle.std.specs.Prelude.{◌≡◌, ◌≤◌, true, length, ⊤, IfO
 ghost use Rattle.cj_ir.specs.WellFormed.{Takes};
 ghost use Rattle.cj_engine.specs.Machines.{state_of};
 ghost use Rattle.cj_engine.specs.CodeMaps.{no_codes};
-ghost use Rattle.cj_engine.specs.Walks.{Walks, no_codes_sound};
+ghost use Rattle.cj_engine.specs.NoCodes.{no_codes_sound};
+ghost use Rattle.cj_engine.specs.Walks.{Walks};
 
 use super::*;
 use cj_base::{End, Turned};

@@ -1,5 +1,5 @@
 -- Reads of lists that are written, and items by their index.
-use Rattle.std.proofs.Common.{◌≡◌, ◌≢◌, ℕ, zero, suc, ◌<◌, List, [], ◌∷◌, length, replicate, Some, refl, ap, subst, ◌∙◌, arith}
+use Rattle.std.proofs.Common.{◌≡◌, ◌≢◌, ℕ, zero, suc, ◌<◌, List, [], ◌∷◌, ◌++◌, length, replicate, Some, refl, ap, subst, ◌∙◌, arith}
 use Rattle.std.specs.Prelude.{slice_get, slice_set, Contains, All}
 use Rattle.std.proofs.lemmas.Option.{same_Some, none-some, slice_get_within, get_or_from_slice_get, slice_get-get_or}
 
@@ -19,6 +19,15 @@ pub get-replicate : {X : Type 0} (n k : ℕ) (v x : X) → slice_get (replicate 
 get-replicate zero k v x e = absurd (none-some x e)
 get-replicate (suc n) zero v x e = same_Some v x e
 get-replicate (suc n) (suc k) v x e = get-replicate n k v x e
+
+pub get-append_left : {X : Type 0} (xs ys : List X) (k : ℕ) (x : X) → slice_get xs k ≡ Some x → slice_get (xs ++ ys) k ≡ Some x
+get-append_left [] ys k x e = absurd (none-some x e)
+get-append_left (y ∷ xs) ys zero x e = e
+get-append_left (y ∷ xs) ys (suc k) x e = get-append_left xs ys k x e
+
+pub get-append_end : {X : Type 0} (xs : List X) (x : X) → slice_get (xs ++ x ∷ []) (length xs) ≡ Some x
+get-append_end [] x = refl
+get-append_end (y ∷ xs) x = get-append_end xs x
 
 pub contains-at : {X : Type 0} (xs : List X) (k : ℕ) (x : X) → slice_get xs k ≡ Some x → Contains xs x
 contains-at xs k x e = (k, slice_get_within xs k x e, get_or_from_slice_get xs k x x e)

@@ -53,9 +53,12 @@ pub fn scan_lines(alloc: Global, mut tokens: Tokens<'_>) -> Result<Labels, Parse
 fn ends_functions(mut tokens: Tokens<'_>) -> bool
     ensures { result ≡ ends_functions (front (left tokens.entry)) (behind (left tokens.entry)) }
 {
-    match tokens.take().terminal {
+    match tokens.peek() {
         Terminal::End => true,
-        Terminal::CloseBrace => tokens.peek() != Terminal::Fun,
+        Terminal::CloseBrace => {
+            let _brace = tokens.take();
+            tokens.peek() != Terminal::Fun
+        }
         _ => false,
     }
 }

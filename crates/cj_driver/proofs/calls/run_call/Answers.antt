@@ -1,4 +1,4 @@
-use Rattle.std.proofs.Common.{◌≡◌, ◌∙◌, ◌++◌, ap, subst}
+use Rattle.std.proofs.Common.{◌∙◌, ◌++◌, ap, subst}
 use Rattle.cj_base.specs.Run.{begun}
 use Rattle.cj_engine.specs.CodeMaps.{no_codes, IsPlainTrail}
 use Rattle.cj_driver.proofs.calls.run_call.Goals as goal

@@ -1,5 +1,4 @@
--- A program without versions has sound codes.
-use Rattle.std.proofs.Common.{◌≡◌, ℕ}
+-- Where no function has a version, the codes are sound.
 use Rattle.cj_ir.specs.declared.language.Program.{Program}
 use Rattle.cj_engine.specs.CodeMaps.{SoundCodes, no_codes}
 
