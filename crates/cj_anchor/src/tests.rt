@@ -1,10 +1,10 @@
 //! Lowering of base bodies, and of drafts with Anchors.
 
 use super::{insert_anchors, lower};
-use cj_draft::{Code, Draft, Point, Room, Skipped, VInstr};
+use cj_draft::{Code, Draft, Room, Skipped, VInstr, Version};
 use cj_ir::{
-    Checked, Duplicate, Expr, FunId, Function, Functions, Instr, Label, Labels, Line, Lines, Name,
-    Names, Operand, Program, Reg, check,
+    Checked, Expr, FunId, Function, Functions, Instr, Label, Labels, Line, Lines, Name, Names,
+    Operand, Program, Reg, check,
 };
 use std::alloc::Global;
 use std::process::Abort;
@@ -43,14 +43,18 @@ fn jump_lines(alloc: Global) -> Result<Lines, Fail> {
     Ok(code)
 }
 
-fn function(rt: &impl Abort, alloc: Global, name: &str, code: Lines) -> Result<Function, Fail> {
+fn registers(rt: &impl Abort, alloc: Global) -> Result<Names, Fail> {
     let mut regs = Names::new(alloc);
     regs.push(named(rt, alloc, "n")?)?;
     regs.push(named(rt, alloc, "r")?)?;
+    Ok(regs)
+}
+
+fn function(rt: &impl Abort, alloc: Global, name: &str, code: Lines) -> Result<Function, Fail> {
     Ok(Function {
         name: named(rt, alloc, name)?,
         params: 1,
-        regs,
+        regs: registers(rt, alloc)?,
         code,
     })
 }
@@ -62,35 +66,31 @@ fn program(rt: &impl Abort, alloc: Global) -> Result<Checked, Fail> {
     Ok(check(Program { functions }).expect(rt, "a well-formed program"))
 }
 
-fn next_of(rt: &impl Abort, code: &Code, at: usize) -> Result<Label, Fail> {
-    assert!(rt; at < code.places.items().len());
-    match code.places.items()[at].instr.copy()? {
-        VInstr::Op { next, .. } | VInstr::Print { next, .. } | VInstr::Nop { next } => Ok(next),
-        _ => Err(Fail::from("the instruction has no next label")),
+fn has_places(code: &Code, entry: u32, count: usize) -> bool {
+    code.entry == Label(entry) && code.places.items().len() == count
+}
+
+fn goes_to(code: &Code, at: usize, label: u32) -> bool {
+    let Some(place) = code.places.items().get(at) else {
+        return false;
+    };
+    match &place.instr {
+        VInstr::Op { next, .. } | VInstr::Print { next, .. } | VInstr::Nop { next } => {
+            *next == Label(label)
+        }
+        _ => false,
     }
 }
 
-fn label_of(rt: &impl Abort, point: &Point) -> Result<Label, Fail> {
-    let point = point.copy()?;
-    assert_eq!(rt; point.frames.items().len(), 1);
-    Ok(point.frames.items()[0].label)
-}
-
-fn has_places(rt: &impl Abort, code: &Code, entry: u32, count: usize) -> Result<(), Fail> {
-    assert_eq!(rt; code.entry, Label(entry));
-    assert_eq!(rt; code.places.items().len(), count);
-    Ok(())
-}
-
-fn goes_to(rt: &impl Abort, code: &Code, at: usize, next: u32) -> Result<(), Fail> {
-    assert_eq!(rt; next_of(rt, code, at)?, Label(next));
-    Ok(())
-}
-
-fn stands_for(rt: &impl Abort, code: &Code, at: usize, label: u32) -> Result<(), Fail> {
-    assert!(rt; at < code.places.items().len());
-    assert_eq!(rt; label_of(rt, &code.places.items()[at].point)?, Label(label));
-    Ok(())
+// The place has one frame, at that label.
+fn stands_for(code: &Code, at: usize, label: u32) -> bool {
+    let Some(place) = code.places.items().get(at) else {
+        return false;
+    };
+    match place.point.frames.items() {
+        [frame] => frame.label == Label(label),
+        _ => false,
+    }
 }
 
 fn labels(alloc: Global, numbers: &[u32]) -> Result<Labels, Fail> {
@@ -111,7 +111,16 @@ fn base_of<'p>(
     Ok(Draft::of_base(alloc, checked, FunId(number))?)
 }
 
-// Anchors before labels of a base body, of which just one is skipped.
+fn lowered<'p>(
+    rt: &impl Abort,
+    alloc: Global,
+    checked: &'p Checked,
+    number: u32,
+) -> Result<Version<'p>, Fail> {
+    Ok(lower(base_of(rt, alloc, checked, number)?)?)
+}
+
+// Anchors before labels of a draft, of which just one is skipped.
 fn anchored<'p>(
     rt: &impl Abort,
     draft: Draft<'p>,
@@ -119,32 +128,45 @@ fn anchored<'p>(
     skip: (u32, Skipped),
 ) -> Result<Draft<'p>, Fail> {
     let (draft, skips) = insert_anchors(draft, before)?;
-    assert_eq!(rt; skips.items().len(), 1);
-    let (at, skipped) = skips.items()[0];
-    assert_eq!(rt; at, skip.0);
-    assert_eq!(rt; skipped, skip.1);
+    assert!(rt; skips.items() == [skip].as_slice());
     Ok(draft)
+}
+
+// The same, of a base body.
+fn anchored_base<'p>(
+    rt: &impl Abort,
+    checked: &'p Checked,
+    number: u32,
+    before: &Labels,
+    skip: (u32, Skipped),
+) -> Result<Draft<'p>, Fail> {
+    let draft = base_of(rt, before.allocator(), checked, number)?;
+    anchored(rt, draft, before, skip)
 }
 
 #[test]
 fn a_base_body_keeps_its_labels(rt: HostRuntime) -> Result<(), Fail> {
     let checked = program(&rt, rt.alloc())?;
-    let version = lower(base_of(&rt, rt.alloc(), &checked, 0)?)?;
+    let version = lowered(&rt, rt.alloc(), &checked, 0)?;
     let code = version.code();
-    has_places(&rt, code, 0, 3)?;
-    goes_to(&rt, code, 0, 1)?;
-    goes_to(&rt, code, 1, 2)?;
-    stands_for(&rt, code, 2, 2)
+    assert!(rt; has_places(code, 0, 3));
+    assert!(rt; goes_to(code, 0, 1));
+    assert!(rt; goes_to(code, 1, 2));
+    assert!(rt; stands_for(code, 2, 2));
+    Ok(())
 }
 
 #[test]
 fn a_label_that_is_not_reached_goes(rt: HostRuntime) -> Result<(), Fail> {
     let checked = program(&rt, rt.alloc())?;
-    let version = lower(base_of(&rt, rt.alloc(), &checked, 1)?)?;
-    let code = version.code();
-    has_places(&rt, code, 0, 2)?;
-    goes_to(&rt, code, 0, 1)?;
-    stands_for(&rt, code, 1, 2)
+    let version = lowered(&rt, rt.alloc(), &checked, 1)?;
+    assert!(rt; is_jump_to_return(version.code()));
+    Ok(())
+}
+
+// The jump and the return of two labels.
+fn is_jump_to_return(code: &Code) -> bool {
+    has_places(code, 0, 2) && goes_to(code, 0, 1) && stands_for(code, 1, 2)
 }
 
 #[test]
@@ -152,19 +174,18 @@ fn edges_go_past_the_anchors_that_were_inserted(rt: HostRuntime) -> Result<(), F
     let checked = program(&rt, rt.alloc())?;
     let no_place = Skipped::NoPlace { label: Label(5) };
     let before = labels(rt.alloc(), &[0, 5, 2, 0])?;
-    let draft = base_of(&rt, rt.alloc(), &checked, 1)?;
-    let draft = anchored(&rt, draft, &before, (1, no_place))?;
-    let code = draft.code();
-    has_places(&rt, code, 3, 6)?;
-    stands_for(&rt, code, 4, 2)?;
-    goes_to(&rt, code, 0, 4)?;
-    goes_to(&rt, code, 1, 3)?;
+    let draft = anchored_base(&rt, &checked, 1, &before, (1, no_place))?;
+    has_anchors(&rt, draft.code());
+    assert!(rt; is_jump_to_return(lower(draft)?.code()));
+    Ok(())
+}
 
-    let version = lower(draft)?;
-    let code = version.code();
-    has_places(&rt, code, 0, 2)?;
-    goes_to(&rt, code, 0, 1)?;
-    stands_for(&rt, code, 1, 2)
+// Three Anchors behind the three labels, with the edges through them.
+fn has_anchors(rt: &impl Abort, code: &Code) {
+    assert!(rt; has_places(code, 3, 6));
+    assert!(rt; stands_for(code, 4, 2));
+    assert!(rt; goes_to(code, 0, 4));
+    assert!(rt; goes_to(code, 1, 3));
 }
 
 #[test]
@@ -175,8 +196,8 @@ fn a_ninth_anchor_of_a_row_is_skipped(rt: HostRuntime) -> Result<(), Fail> {
         count: 9,
     };
     let before = labels(rt.alloc(), &[0, 0, 0, 0, 0, 0, 0, 0, 0, 1])?;
-    let draft = base_of(&rt, rt.alloc(), &checked, 0)?;
-    let draft = anchored(&rt, draft, &before, (8, full))?;
+    let draft = anchored_base(&rt, &checked, 0, &before, (8, full))?;
     assert_eq!(rt; draft.code().places.items().len(), 12);
-    has_places(&rt, lower(draft)?.code(), 0, 3)
+    assert!(rt; has_places(lower(draft)?.code(), 0, 3));
+    Ok(())
 }

@@ -1,6 +1,7 @@
 //! Instructions, read from their words.
 
-ghost use Rattle.std.specs.Prelude.{◌≡◌};
+ghost use Rattle.std.specs.Prelude.{◌≡◌, IfErr};
+ghost use Rattle.cj_codec.specs.declared.reader.ReadError.TheVariants as read_error;
 ghost use Rattle.cj_codec.specs.Reading.{pair_at, pairs_at, has_dest, are_apart, op_at, move_at, cond_at, call_at, print_at, load_at, store_at, fail_at, assume_at, instr_by, instr_at};
 ghost use Rattle.cj_codec.specs.Answers.{left, Gives};
 
@@ -16,7 +17,10 @@ impl Item for Pair {
     ghost reading = { pair_at };
 
     #[tactic(auto, unfolding(crate::specs::Reading::pair_at))]
-    fn read(_alloc: Global, words: &mut WordReader<'_>, limits: Limits) -> Result<Pair, ReadError> {
+    fn read(_alloc: Global, words: &mut WordReader<'_>, limits: Limits) -> Result<Pair, ReadError>
+        ensures reads { Gives result (left words.new) (pair_at limits (left words.old)) }
+        ensures err { IfErr result (λ error. error ≡ read_error.NoSpelling) }
+    {
         let dest = words.reg(limits)?;
         let value = read_operand(words, limits)?;
         Ok(Pair { dest, value })
@@ -59,7 +63,8 @@ fn read_pairs(alloc: Global, words: &mut WordReader<'_>, limits: Limits) -> Resu
 
 #[tactic(auto, unfolding(crate::specs::Reading::op_at))]
 fn read_op(words: &mut WordReader<'_>, limits: Limits) -> Result<VInstr, ReadError>
-    ensures { Gives result (left words.new) (op_at limits (left words.old)) }
+    ensures reads { Gives result (left words.new) (op_at limits (left words.old)) }
+    ensures err { IfErr result (λ error. error ≡ read_error.NoSpelling) }
 {
     let dest = words.reg(limits)?;
     let expr = read_expr(words, limits)?;
@@ -78,7 +83,8 @@ fn read_move(alloc: Global, words: &mut WordReader<'_>, limits: Limits) -> Resul
 
 #[tactic(auto, unfolding(crate::specs::Reading::cond_at))]
 fn read_cond(words: &mut WordReader<'_>, limits: Limits) -> Result<VInstr, ReadError>
-    ensures { Gives result (left words.new) (cond_at limits (left words.old)) }
+    ensures reads { Gives result (left words.new) (cond_at limits (left words.old)) }
+    ensures err { IfErr result (λ error. error ≡ read_error.NoSpelling) }
 {
     let test = read_operand(words, limits)?;
     let then_to = words.label(limits)?;
@@ -108,7 +114,8 @@ fn read_call(alloc: Global, words: &mut WordReader<'_>, limits: Limits) -> Resul
 
 #[tactic(auto, unfolding(crate::specs::Reading::print_at))]
 fn read_print(words: &mut WordReader<'_>, limits: Limits) -> Result<VInstr, ReadError>
-    ensures { Gives result (left words.new) (print_at limits (left words.old)) }
+    ensures reads { Gives result (left words.new) (print_at limits (left words.old)) }
+    ensures err { IfErr result (λ error. error ≡ read_error.NoSpelling) }
 {
     let value = read_operand(words, limits)?;
     let next = words.label(limits)?;
@@ -117,7 +124,8 @@ fn read_print(words: &mut WordReader<'_>, limits: Limits) -> Result<VInstr, Read
 
 #[tactic(auto, unfolding(crate::specs::Reading::load_at))]
 fn read_load(words: &mut WordReader<'_>, limits: Limits) -> Result<VInstr, ReadError>
-    ensures { Gives result (left words.new) (load_at limits (left words.old)) }
+    ensures reads { Gives result (left words.new) (load_at limits (left words.old)) }
+    ensures err { IfErr result (λ error. error ≡ read_error.NoSpelling) }
 {
     let dest = words.reg(limits)?;
     let address = read_operand(words, limits)?;
@@ -131,7 +139,8 @@ fn read_load(words: &mut WordReader<'_>, limits: Limits) -> Result<VInstr, ReadE
 
 #[tactic(auto, unfolding(crate::specs::Reading::store_at))]
 fn read_store(words: &mut WordReader<'_>, limits: Limits) -> Result<VInstr, ReadError>
-    ensures { Gives result (left words.new) (store_at limits (left words.old)) }
+    ensures reads { Gives result (left words.new) (store_at limits (left words.old)) }
+    ensures err { IfErr result (λ error. error ≡ read_error.NoSpelling) }
 {
     let address = read_operand(words, limits)?;
     let value = read_operand(words, limits)?;
@@ -145,7 +154,8 @@ fn read_store(words: &mut WordReader<'_>, limits: Limits) -> Result<VInstr, Read
 
 #[tactic(auto, unfolding(crate::specs::Reading::fail_at))]
 fn read_fail(words: &mut WordReader<'_>) -> Result<VInstr, ReadError>
-    ensures { Gives result (left words.new) (fail_at (left words.old)) }
+    ensures reads { Gives result (left words.new) (fail_at (left words.old)) }
+    ensures err { IfErr result (λ error. error ≡ read_error.NoSpelling) }
 {
     let function = words.function()?;
     let label = words.base_label()?;

@@ -36,7 +36,10 @@ impl Item for Operand {
         _alloc: Global,
         words: &mut WordReader<'_>,
         limits: Limits,
-    ) -> Result<Operand, ReadError> {
+    ) -> Result<Operand, ReadError>
+        ensures reads { Gives result (left words.new) (operand_at limits (left words.old)) }
+        ensures err { IfErr result (λ error. error ≡ read_error.NoSpelling) }
+    {
         read_operand(words, limits)
     }
 }
@@ -106,11 +109,10 @@ impl Item for Guard {
     ghost reading = { guard_at };
 
     #[tactic(auto, unfolding(crate::specs::Reading::guard_at))]
-    fn read(
-        _alloc: Global,
-        words: &mut WordReader<'_>,
-        limits: Limits,
-    ) -> Result<Guard, ReadError> {
+    fn read(_alloc: Global, words: &mut WordReader<'_>, limits: Limits) -> Result<Guard, ReadError>
+        ensures reads { Gives result (left words.new) (guard_at limits (left words.old)) }
+        ensures err { IfErr result (λ error. error ≡ read_error.NoSpelling) }
+    {
         match words.next()? {
             0 => Ok(Guard::Never),
             1 => {

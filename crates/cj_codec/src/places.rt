@@ -1,6 +1,7 @@
 //! Places, read from their words: facts, backs and the whole.
 
-ghost use Rattle.std.specs.Prelude.{◌≡◌};
+ghost use Rattle.std.specs.Prelude.{◌≡◌, IfErr};
+ghost use Rattle.cj_codec.specs.declared.reader.ReadError.TheVariants as read_error;
 ghost use Rattle.cj_codec.specs.Reading.{fact_at, rise_from, known_at, facts_at, back_at, place_at};
 ghost use Rattle.cj_codec.specs.Answers.{left, Gives};
 
@@ -15,7 +16,10 @@ impl Item for Fact {
     ghost reading = { fact_at };
 
     #[tactic(auto, unfolding(crate::specs::Reading::fact_at))]
-    fn read(_alloc: Global, words: &mut WordReader<'_>, limits: Limits) -> Result<Fact, ReadError> {
+    fn read(_alloc: Global, words: &mut WordReader<'_>, limits: Limits) -> Result<Fact, ReadError>
+        ensures reads { Gives result (left words.new) (fact_at limits (left words.old)) }
+        ensures err { IfErr result (λ error. error ≡ read_error.NoSpelling) }
+    {
         let reg = words.reg(limits)?;
         let value = words.value()?;
         Ok(Fact { reg, value })

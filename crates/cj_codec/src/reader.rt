@@ -1,6 +1,6 @@
 //! Words that are read one after the other.
 
-ghost use Rattle.std.specs.Prelude.{◌≡◌, ◌<◌, ◌≤◌, Ok, IfOk, IfErr};
+ghost use Rattle.std.specs.Prelude.{◌≡◌, ◌<◌, ◌≤◌, Ok, Err, IfOk, IfErr};
 ghost use Rattle.cj_codec.specs.declared.reader.ReadError.TheVariants as read_error;
 ghost use Rattle.cj_spelling.specs.Formats.{word_at, below_at, at_most_at};
 ghost use Rattle.cj_codec.specs.Reading.{value_at, function_at, label_at, base_label_at, reg_at, base_reg_at};
@@ -31,8 +31,8 @@ pub struct WordReader<'a> {
 
 /// Want of memory, as a reader answers it.
 pub fn remembered<T: Drop>(outcome: Result<T, NoMemory>) -> Result<T, ReadError>
-    ensures ok { IfOk result (λ value. outcome ≡ Ok value) }
-    ensures err { IfErr result (λ error. error ≡ read_error.NoMemory) }
+    ensures ok { IfOk outcome (λ value. result ≡ Ok value) }
+    ensures err { IfErr outcome (λ error. result ≡ Err read_error.NoMemory) }
 {
     match outcome {
         Ok(value) => Ok(value),

@@ -3,8 +3,8 @@
 use super::{fold, strongest};
 use cj_draft::{Code, Draft, Fact, FactTable, Facts, VInstr};
 use cj_ir::{
-    Checked, Duplicate, Expr, FunId, Function, Functions, Instr, Label, Line, Lines, Name, Names,
-    Operand, Program, Reg, check,
+    Checked, Expr, FunId, Function, Functions, Instr, Label, Line, Lines, Name, Names, Operand,
+    Program, Reg, check,
 };
 use std::alloc::Global;
 use std::process::Abort;
@@ -70,14 +70,18 @@ fn decided(alloc: Global) -> Result<Lines, Fail> {
     Ok(code)
 }
 
-fn function(rt: &impl Abort, alloc: Global, name: &str, code: Lines) -> Result<Function, Fail> {
+fn registers(rt: &impl Abort, alloc: Global) -> Result<Names, Fail> {
     let mut regs = Names::new(alloc);
     regs.push(named(rt, alloc, "n")?)?;
     regs.push(named(rt, alloc, "r")?)?;
+    Ok(regs)
+}
+
+fn function(rt: &impl Abort, alloc: Global, name: &str, code: Lines) -> Result<Function, Fail> {
     Ok(Function {
         name: named(rt, alloc, name)?,
         params: 1,
-        regs,
+        regs: registers(rt, alloc)?,
         code,
     })
 }
@@ -91,70 +95,60 @@ fn program(rt: &impl Abort, alloc: Global) -> Result<Checked, Fail> {
     Ok(check(Program { functions }).expect(rt, "a well-formed program"))
 }
 
-fn base_of<'p>(
-    rt: &impl Abort,
-    alloc: Global,
-    checked: &'p Checked,
-    f: u32,
-) -> Result<Draft<'p>, Fail> {
+// The strongest facts of a base body, and the body folded over them.
+#[derive(Drop)]
+struct Folded {
+    facts: FactTable,
+    code: Code,
+}
+
+fn fold_in(rt: &impl Abort, alloc: Global, checked: &Checked, f: u32) -> Result<Folded, Fail> {
     assert!(rt; (f as usize) < checked.program().functions.items().len());
-    Ok(Draft::of_base(alloc, checked, FunId(f))?)
+    let draft = Draft::of_base(alloc, checked, FunId(f))?;
+    let facts = strongest(alloc, &draft)?;
+    let code = code_of(fold(draft)?);
+    Ok(Folded { facts, code })
 }
 
-fn has_facts(rt: &impl Abort, table: &FactTable, at: usize, want: &[Fact]) -> Result<(), Fail> {
-    assert!(rt; at < table.items().len());
-    match &table.items()[at] {
-        Facts::Known(facts) => {
-            assert_eq!(rt; facts.items(), want);
-            Ok(())
-        }
-        Facts::Unreached => Err(Fail::from("no run comes to the label")),
+fn code_of(draft: Draft<'_>) -> Code {
+    let (_, _, code) = draft.into_parts();
+    code
+}
+
+fn fold_of(rt: &impl Abort, alloc: Global, f: u32) -> Result<Folded, Fail> {
+    fold_in(rt, alloc, &program(rt, alloc)?, f)
+}
+
+fn has_facts(table: &FactTable, at: usize, want: &[Fact]) -> bool {
+    match table.items().get(at) {
+        Some(Facts::Known(facts)) => facts.items() == want,
+        _ => false,
     }
 }
 
-fn is_unreached(rt: &impl Abort, table: &FactTable, at: usize) -> Result<(), Fail> {
-    assert!(rt; at < table.items().len());
-    match &table.items()[at] {
-        Facts::Unreached => Ok(()),
-        Facts::Known(_) => Err(Fail::from("a run comes to the label")),
-    }
+fn is_unreached(table: &FactTable, at: usize) -> bool {
+    matches!(table.items().get(at), Some(Facts::Unreached))
 }
 
-fn instr_at(rt: &impl Abort, code: &Code, at: usize) -> Result<VInstr, Fail> {
-    assert!(rt; at < code.places.items().len());
-    Ok(code.places.items()[at].instr.copy()?)
+fn instr_at(code: &Code, at: usize) -> Option<&VInstr> {
+    let place = code.places.items().get(at)?;
+    Some(&place.instr)
 }
 
-fn returns(rt: &impl Abort, code: &Code, at: usize, want: Operand) -> Result<(), Fail> {
-    let VInstr::Return { value } = instr_at(rt, code, at)? else {
-        return Err(Fail::from("no return"));
-    };
-    assert_eq!(rt; value, want);
-    Ok(())
+fn returns(code: &Code, at: usize, want: Operand) -> bool {
+    matches!(instr_at(code, at), Some(VInstr::Return { value }) if *value == want)
 }
 
-fn computes(rt: &impl Abort, code: &Code, at: usize, want: Expr) -> Result<(), Fail> {
-    let VInstr::Op { expr, .. } = instr_at(rt, code, at)? else {
-        return Err(Fail::from("no op"));
-    };
-    assert_eq!(rt; expr, want);
-    Ok(())
+fn computes(code: &Code, at: usize, want: Expr) -> bool {
+    matches!(instr_at(code, at), Some(VInstr::Op { expr, .. }) if *expr == want)
 }
 
-fn tests(rt: &impl Abort, code: &Code, at: usize, want: Operand) -> Result<(), Fail> {
-    let VInstr::Cond { test, .. } = instr_at(rt, code, at)? else {
-        return Err(Fail::from("no cond"));
-    };
-    assert_eq!(rt; test, want);
-    Ok(())
+fn tests(code: &Code, at: usize, want: Operand) -> bool {
+    matches!(instr_at(code, at), Some(VInstr::Cond { test, .. }) if *test == want)
 }
 
-fn jumps(rt: &impl Abort, code: &Code, at: usize, want: u32) -> Result<(), Fail> {
-    let VInstr::Nop { next } = instr_at(rt, code, at)? else {
-        return Err(Fail::from("no nop"));
-    };
-    assert_eq!(rt; next, Label(want));
-    Ok(())
+fn jumps(code: &Code, at: usize, want: u32) -> bool {
+    matches!(instr_at(code, at), Some(VInstr::Nop { next }) if *next == Label(want))
 }
 
 fn fact(value: i64) -> Fact {
@@ -163,47 +157,42 @@ fn fact(value: i64) -> Fact {
 
 #[test]
 fn equal_constants_meet(rt: HostRuntime) -> Result<(), Fail> {
-    let checked = program(&rt, rt.alloc())?;
-    let draft = base_of(&rt, rt.alloc(), &checked, 0)?;
-    let table = strongest(rt.alloc(), &draft)?;
-    has_facts(&rt, &table, 0, &[])?;
-    has_facts(&rt, &table, 1, &[])?;
-    has_facts(&rt, &table, 2, &[])?;
-    has_facts(&rt, &table, 3, &[fact(1)])?;
-    returns(&rt, fold(draft)?.code(), 3, Operand::Const(1))
+    let folded = fold_of(&rt, rt.alloc(), 0)?;
+    assert!(rt; has_facts(&folded.facts, 0, &[]));
+    assert!(rt; has_facts(&folded.facts, 1, &[]));
+    assert!(rt; has_facts(&folded.facts, 2, &[]));
+    assert!(rt; has_facts(&folded.facts, 3, &[fact(1)]));
+    assert!(rt; returns(&folded.code, 3, Operand::Const(1)));
+    Ok(())
 }
 
 #[test]
 fn different_constants_do_not(rt: HostRuntime) -> Result<(), Fail> {
-    let checked = program(&rt, rt.alloc())?;
-    let draft = base_of(&rt, rt.alloc(), &checked, 1)?;
-    has_facts(&rt, &strongest(rt.alloc(), &draft)?, 3, &[])?;
-    let draft = fold(draft)?;
-    tests(&rt, draft.code(), 0, N)?;
-    computes(&rt, draft.code(), 1, Expr::Copy(Operand::Const(1)))?;
-    computes(&rt, draft.code(), 2, Expr::Copy(Operand::Const(2)))?;
-    returns(&rt, draft.code(), 3, R)
+    let folded = fold_of(&rt, rt.alloc(), 1)?;
+    assert!(rt; has_facts(&folded.facts, 3, &[]));
+    assert!(rt; tests(&folded.code, 0, N));
+    assert!(rt; computes(&folded.code, 1, Expr::Copy(Operand::Const(1))));
+    assert!(rt; computes(&folded.code, 2, Expr::Copy(Operand::Const(2))));
+    assert!(rt; returns(&folded.code, 3, R));
+    Ok(())
 }
 
 #[test]
 fn a_zero_divisor_is_not_folded(rt: HostRuntime) -> Result<(), Fail> {
-    let checked = program(&rt, rt.alloc())?;
-    let draft = base_of(&rt, rt.alloc(), &checked, 2)?;
-    is_unreached(&rt, &strongest(rt.alloc(), &draft)?, 1)?;
-    let draft = fold(draft)?;
+    let folded = fold_of(&rt, rt.alloc(), 2)?;
+    assert!(rt; is_unreached(&folded.facts, 1));
     let quotient = Expr::Div(Operand::Const(7), Operand::Const(0));
-    computes(&rt, draft.code(), 0, quotient)?;
-    returns(&rt, draft.code(), 1, R)
+    assert!(rt; computes(&folded.code, 0, quotient));
+    assert!(rt; returns(&folded.code, 1, R));
+    Ok(())
 }
 
 #[test]
 fn a_decided_branch_is_a_jump(rt: HostRuntime) -> Result<(), Fail> {
-    let checked = program(&rt, rt.alloc())?;
-    let draft = base_of(&rt, rt.alloc(), &checked, 3)?;
-    let table = strongest(rt.alloc(), &draft)?;
-    is_unreached(&rt, &table, 2)?;
-    has_facts(&rt, &table, 3, &[fact(0)])?;
-    let draft = fold(draft)?;
-    jumps(&rt, draft.code(), 1, 3)?;
-    returns(&rt, draft.code(), 3, Operand::Const(0))
+    let folded = fold_of(&rt, rt.alloc(), 3)?;
+    assert!(rt; is_unreached(&folded.facts, 2));
+    assert!(rt; has_facts(&folded.facts, 3, &[fact(0)]));
+    assert!(rt; jumps(&folded.code, 1, 3));
+    assert!(rt; returns(&folded.code, 3, Operand::Const(0)));
+    Ok(())
 }

@@ -1,6 +1,5 @@
 mod GrammarTurns
 mod ReplayShapes
-mod Names
 mod LabelTurns
 mod ManyTurns
 mod GuardTurns

@@ -1,24 +1,17 @@
 //! The offences of single tokens.
 
-ghost use Rattle.std.specs.Prelude.{◌≡◌, ◌+◌, ◌<◌, ◌≤◌, pos, length, position, unsigned_abs, IfSome, IfOk};
+ghost use Rattle.std.specs.Prelude.{◌+◌, ◌≤◌, pos, unsigned_abs, IfOk};
 ghost use Rattle.cj_tokens.specs.Seen.{seen};
-ghost use Rattle.cj_grammar.specs.Reading.{Found, offence};
-ghost use Rattle.cj_script.specs.Meaning.{is_named, id_named, out_of_range, function_offences};
+ghost use Rattle.cj_grammar.specs.Reading.{Found};
+ghost use Rattle.cj_script.specs.Meaning.{out_of_range};
 ghost use Rattle.cj_script.specs.Reading.{judged};
 ghost use Rattle.cj_ir.specs.declared.language.Guard.TheVariants.{Never};
 ghost use Rattle.cj_events.specs.Meaning.{label_of, label_offences, listed_offences, register_of, ninth_offences, register_offences, run_offences, count_offences};
 
-use cj_ir::{FunId, Function, Guard, Label, Reg};
-use cj_tokens::{Kind, Lexeme, ParseError, Refused};
-
-pub fn refused(token: Lexeme<'_>, kind: Kind) -> ParseError
-    ensures { result ≡ ParseError.Refused (offence (seen token.entry) kind) }
-{
-    ParseError::Refused(Refused {
-        line: token.line,
-        kind,
-    })
-}
+use cj_grammar::refused;
+use cj_ir::{Guard, Label, Reg};
+use cj_script::number_within;
+use cj_tokens::{Kind, Lexeme, ParseError};
 
 /// A label of a draft.
 pub fn draft_label(token: Lexeme<'_>) -> Result<Label, ParseError>
@@ -83,42 +76,4 @@ pub fn step_count(spent: u32, token: Lexeme<'_>) -> Result<u32, ParseError>
     }
     let number = number_within(token, 1, 1_000_000)?;
     Ok(number)
-}
-
-/// The value of a number between those two.
-fn number_within(token: Lexeme<'_>, least: u32, most: u32) -> Result<u32, ParseError>
-    ensures number { Found result (judged (out_of_range (pos least) (pos most) (seen token.entry)) (unsigned_abs (seen token.entry).number)) }
-    ensures most { IfOk result (λ number. number ≤ most) }
-{
-    let number = token.number;
-    if (least as i64) <= number && number <= most as i64 {
-        Ok(number as u32)
-    } else {
-        Err(refused(token, Kind::Range))
-    }
-}
-
-/// The place of the first function with that name.
-fn place_named(functions: &[Function], name: Lexeme<'_>) -> Option<usize>
-    ensures place { result ≡ position (is_named (seen name.entry)) functions.now }
-    ensures within { IfSome result (λ k. k < length functions.now) }
-{
-    functions
-        .iter()
-        .position(|function| function.name.bytes() == name.text)
-}
-
-/// The function that a name names.
-#[tactic(auto, using(crate::proofs::Names::named, crate::proofs::Names::unnamed, crate::proofs::Names::long_named))]
-pub fn function_id(functions: &[Function], name: Lexeme<'_>) -> Result<FunId, ParseError>
-    requires { length functions.now ≤ 64 }
-    ensures { Found result (judged (function_offences functions.now (seen name.entry)) (id_named functions.now (seen name.entry))) }
-{
-    if name.text.len() > 32 {
-        return Err(refused(name, Kind::TooMany));
-    }
-    match place_named(functions, name) {
-        Some(place) => Ok(FunId(place as u32)),
-        None => Err(refused(name, Kind::NoFunction)),
-    }
 }

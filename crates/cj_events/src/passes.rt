@@ -6,9 +6,10 @@ ghost use Rattle.cj_grammar.specs.Reading.{Gives};
 ghost use Rattle.cj_events.specs.Reading.{is_pass, anchors_at, assume_at, delay_at, inline_at, any_pass_at, pass_at, passes_at};
 
 use crate::guards::read_guards;
-use crate::judge::{draft_label, refused};
+use crate::judge::draft_label;
 use crate::labels::read_labels;
 use cj_draft::{Pass, Passes};
+use cj_grammar::refused;
 use cj_tokens::{Kind, ParseError, Terminal, Tokens};
 use std::alloc::Global;
 

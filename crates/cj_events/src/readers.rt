@@ -7,11 +7,12 @@ ghost use Rattle.cj_events.specs.Reading.{begin_at, step_at, compile_at, event_a
 ghost use Rattle.cj_events.specs.Tallies.{counted, IsWithin};
 
 use crate::events::{Event, Events};
-use crate::judge::{function_id, refused, run_number, step_count};
+use crate::judge::{run_number, step_count};
 use crate::passes::read_passes;
 use crate::tally::{Tally, counted, nothing};
+use cj_grammar::refused;
 use cj_ir::Function;
-use cj_script::read_begun;
+use cj_script::{function_id, read_begun};
 use cj_tokens::{Kind, ParseError, Terminal, Tokens};
 use std::alloc::Global;
 

@@ -3,10 +3,10 @@
 ghost use Rattle.std.specs.Prelude.{◌≡◌, [], IfOk};
 
 use super::inline;
-use cj_draft::{Code, Draft, Pair, Pairs, Skipped, VInstr};
+use cj_draft::{Code, Draft, Pair, Skipped, VInstr};
 use cj_ir::{
-    Checked, Duplicate, Expr, FunId, Function, Functions, Instr, Label, Line, Lines, Name, Names,
-    Operand, Operands, Program, Reg, check,
+    Checked, Expr, FunId, Function, Functions, Instr, Label, Line, Lines, Name, Names, Operand,
+    Operands, Program, Reg, check,
 };
 use std::alloc::Global;
 use std::process::Abort;
@@ -84,14 +84,18 @@ fn down_lines(alloc: Global) -> Result<Lines, Fail> {
     Ok(code)
 }
 
-fn function(rt: &impl Abort, alloc: Global, name: &str, code: Lines) -> Result<Function, Fail> {
+fn registers(rt: &impl Abort, alloc: Global) -> Result<Names, Fail> {
     let mut regs = Names::new(alloc);
     regs.push(named(rt, alloc, "n")?)?;
     regs.push(named(rt, alloc, "r")?)?;
+    Ok(regs)
+}
+
+fn function(rt: &impl Abort, alloc: Global, name: &str, code: Lines) -> Result<Function, Fail> {
     Ok(Function {
         name: named(rt, alloc, name)?,
         params: 1,
-        regs,
+        regs: registers(rt, alloc)?,
         code,
     })
 }
@@ -104,19 +108,8 @@ fn program(rt: &impl Abort, alloc: Global) -> Result<Checked, Fail> {
     Ok(check(Program { functions }).expect(rt, "a well-formed program"))
 }
 
-fn has_counts(rt: &impl Abort, code: &Code, regs: u32, labels: usize) -> Result<(), Fail> {
-    assert_eq!(rt; code.entry, Label(0));
-    assert_eq!(rt; code.regs, regs);
-    assert_eq!(rt; code.places.items().len(), labels);
-    Ok(())
-}
-
-fn move_at(rt: &impl Abort, code: &Code, at: usize) -> Result<(Pairs, Label), Fail> {
-    assert!(rt; at < code.places.items().len());
-    match code.places.items()[at].instr.copy()? {
-        VInstr::Move { pairs, next } => Ok((pairs, next)),
-        _ => Err(Fail::from("no move")),
-    }
+fn has_counts(code: &Code, regs: u32, labels: usize) -> bool {
+    code.entry == Label(0) && code.regs == regs && code.places.items().len() == labels
 }
 
 fn pair(dest: u32, value: Operand) -> Pair {
@@ -126,27 +119,32 @@ fn pair(dest: u32, value: Operand) -> Pair {
     }
 }
 
+fn moves(code: &Code, at: usize, set: &[Pair], to: u32) -> bool {
+    let Some(place) = code.places.items().get(at) else {
+        return false;
+    };
+    match &place.instr {
+        VInstr::Move { pairs, next } => pairs.items() == set && *next == Label(to),
+        _ => false,
+    }
+}
+
 // A move of the argument to register 2, and of 0 to register 3.
-fn enters(rt: &impl Abort, code: &Code, at: usize, arg: u32, next: u32) -> Result<(), Fail> {
-    let (pairs, to) = move_at(rt, code, at)?;
+fn enters(code: &Code, at: usize, arg: u32, next: u32) -> bool {
     let set = [pair(2, reg(arg)), pair(3, Operand::Const(0))];
-    assert_eq!(rt; to, Label(next));
-    assert_eq!(rt; pairs.items(), set.as_slice());
-    Ok(())
+    moves(code, at, &set, next)
 }
 
 // A move of register 3 to register 1.
-fn leaves(rt: &impl Abort, code: &Code, at: usize, next: u32) -> Result<(), Fail> {
-    let (pairs, to) = move_at(rt, code, at)?;
-    let set = [pair(1, reg(3))];
-    assert_eq!(rt; to, Label(next));
-    assert_eq!(rt; pairs.items(), set.as_slice());
-    Ok(())
+fn leaves(code: &Code, at: usize, next: u32) -> bool {
+    moves(code, at, &[pair(1, reg(3))], next)
 }
 
-fn frames_at(rt: &impl Abort, code: &Code, at: usize) -> Result<usize, Fail> {
-    assert!(rt; at < code.places.items().len());
-    Ok(code.places.items()[at].point.frames.items().len())
+fn has_frames(code: &Code, at: usize, count: usize) -> bool {
+    match code.places.items().get(at) {
+        Some(place) => place.point.frames.items().len() == count,
+        None => false,
+    }
 }
 
 fn base<'p>(
@@ -162,16 +160,19 @@ fn base<'p>(
     Ok(draft)
 }
 
+// The callee in the caller's base body.
 fn made<'p>(
     rt: &impl Abort,
-    draft: Draft<'p>,
+    checked: &'p Checked,
+    caller: u32,
     call: u32,
     callee: &Draft<'p>,
 ) -> Result<Draft<'p>, Fail>
-    requires program { callee.now.program ≡ draft.program }
+    requires program { callee.now.program ≡ checked.now }
     requires context { callee.now.context ≡ [] }
-    ensures { IfOk result (λ made. made.program ≡ draft.entry.program) }
+    ensures { IfOk result (λ made. made.program ≡ checked.now) }
 {
+    let draft = base(rt, callee.code().places.allocator(), checked, caller)?;
     let (made, skipped) = inline(draft, Label(call), callee)?;
     assert_eq!(rt; skipped, None);
     Ok(made)
@@ -189,30 +190,29 @@ fn is_no_call<'p>(
     let label = Label(call);
     let (left, skipped) = inline(draft, label, callee)?;
     assert_eq!(rt; skipped, Some(Skipped::NotCall { label }));
-    has_counts(rt, left.code(), 4, 5)
-}
-
-fn has_accumulator(rt: &impl Abort, code: &Code) -> Result<(), Fail> {
-    has_counts(rt, code, 4, 5)?;
-    enters(rt, code, 0, 0, 3)?;
-    leaves(rt, code, 4, 1)?;
-    assert_eq!(rt; frames_at(rt, code, 4)?, 2);
+    assert!(rt; has_counts(left.code(), 4, 5));
     Ok(())
 }
 
-fn has_itself(rt: &impl Abort, code: &Code) -> Result<(), Fail> {
-    has_counts(rt, code, 4, 8)?;
-    enters(rt, code, 2, 1, 4)?;
-    leaves(rt, code, 7, 3)
+fn has_accumulator(rt: &impl Abort, code: &Code) {
+    assert!(rt; has_counts(code, 4, 5));
+    assert!(rt; enters(code, 0, 0, 3));
+    assert!(rt; leaves(code, 4, 1));
+    assert!(rt; has_frames(code, 4, 2));
+}
+
+fn has_itself(rt: &impl Abort, code: &Code) {
+    assert!(rt; has_counts(code, 4, 8));
+    assert!(rt; enters(code, 2, 1, 4));
+    assert!(rt; leaves(code, 7, 3));
 }
 
 #[test]
 fn a_call_is_inlined_once(rt: HostRuntime) -> Result<(), Fail> {
     let checked = program(&rt, rt.alloc())?;
     let acc = base(&rt, rt.alloc(), &checked, 1)?;
-    let main = base(&rt, rt.alloc(), &checked, 0)?;
-    let made = made(&rt, main, 0, &acc)?;
-    has_accumulator(&rt, made.code())?;
+    let made = made(&rt, &checked, 0, 0, &acc)?;
+    has_accumulator(&rt, made.code());
     is_no_call(&rt, made, 0, &acc)
 }
 
@@ -220,6 +220,7 @@ fn a_call_is_inlined_once(rt: HostRuntime) -> Result<(), Fail> {
 fn a_function_is_inlined_into_itself(rt: HostRuntime) -> Result<(), Fail> {
     let checked = program(&rt, rt.alloc())?;
     let callee = base(&rt, rt.alloc(), &checked, 2)?;
-    let caller = base(&rt, rt.alloc(), &checked, 2)?;
-    has_itself(&rt, made(&rt, caller, 2, &callee)?.code())
+    let made = made(&rt, &checked, 2, 2, &callee)?;
+    has_itself(&rt, made.code());
+    Ok(())
 }

@@ -10,7 +10,7 @@ use cj_grammar::refused;
 use cj_ir::{FunId, Function};
 use cj_tokens::{Kind, Lexeme, ParseError};
 
-/// The value of a number between those two.
+/// The value of a number from `least` to `most`. Refused: any other number, with Range.
 pub fn number_within(token: Lexeme<'_>, least: u32, most: u32) -> Result<u32, ParseError>
     ensures number { Found result (judged (out_of_range (pos least) (pos most) (seen token.entry)) (unsigned_abs (seen token.entry).number)) }
     ensures most { IfOk result (λ number. number ≤ most) }
@@ -46,7 +46,7 @@ pub fn place_named(functions: &[Function], name: Lexeme<'_>) -> Option<usize>
         .position(|function| function.name.bytes() == name.text)
 }
 
-/// The function that a name names.
+/// The function that a name names. Refused: a name of more than 32 bytes with TooMany, one of no function with NoFunction.
 #[tactic(auto, using(crate::proofs::Naming::named_judged, crate::proofs::Naming::unnamed_judged, crate::proofs::Naming::placed_named), unfolding(crate::specs::Meaning::function_offences))]
 pub fn function_id(functions: &[Function], name: Lexeme<'_>) -> Result<FunId, ParseError>
     requires { length functions.now ≤ 64 }

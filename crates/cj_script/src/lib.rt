@@ -11,4 +11,5 @@ mod setups;
 mod tests;
 
 pub use begun::read_begun;
+pub use judge::{function_id, number_within};
 pub use script::read_script;
