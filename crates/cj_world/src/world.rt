@@ -19,12 +19,12 @@ use crate::cache::Cache;
 use crate::played::{Compiled, CompiledList, Played, SkipLists};
 use crate::runs::Run;
 use cj_calls::Reports;
-use cj_spelling::MAX_WORDS;
 use cj_draft::{Passes, Version};
 use cj_engine::laws::{later_codes_keep_a_report, later_codes_keep_a_run};
 use cj_events::Event;
 use cj_ir::{Checked, FunId, NoMemory, ScriptCall};
 use cj_passes::pipeline;
+use cj_spelling::MAX_WORDS;
 use std::alloc::Global;
 
 /// The state of a play: the versions in a table of so many words, with its first free word, the runs in the order in which
