@@ -4,7 +4,7 @@ use crate::plays::play_in;
 use crate::{Compiled, Played, play};
 use cj_base::End;
 use cj_calls::{Look, Note, Report};
-use cj_draft::Skipped;
+use cj_draft::{Skipped, Skips};
 use cj_events::parse_replay;
 use cj_ir::{FunId, Label};
 use std::alloc::Global;
@@ -15,14 +15,15 @@ const MAIN: FunId = FunId(0);
 
 const TWICE: FunId = FunId(1);
 
-// The play of a replay, in a table of so many words; without a number in the table of every play.
-fn played(rt: &impl Abort, alloc: Global, text: &[u8], words: Option<u32>) -> Result<Played, Fail> {
+fn played(alloc: Global, text: &[u8]) -> Result<Played, Fail> {
     let (checked, events) = parse_replay(alloc, text)?;
-    let played = match words {
-        Some(words) => play_in(alloc, &checked, &events, words)?,
-        None => play(alloc, &checked, &events)?,
-    };
-    Ok(played)
+    Ok(play(alloc, &checked, &events)?)
+}
+
+// The play of a replay in a table of so many words.
+fn played_in(alloc: Global, text: &[u8], words: u32) -> Result<Played, Fail> {
+    let (checked, events) = parse_replay(alloc, text)?;
+    Ok(play_in(alloc, &checked, &events, words)?)
 }
 
 fn look(function: FunId, offset: u64) -> Look {
@@ -32,6 +33,10 @@ fn look(function: FunId, offset: u64) -> Look {
 // The turns, the base turns and the failed Assumes of a report.
 fn counts(report: &Report) -> (u64, u64, u64) {
     (report.turns, report.base_turns, report.fails)
+}
+
+fn comes_to(report: &Report, printed: &[i64], end: End, turns: (u64, u64, u64)) -> bool {
+    report.printed.items() == printed && report.end == end && counts(report) == turns
 }
 
 fn is_top_of_main(note: &Note, regs: &[i64]) -> bool {
@@ -45,30 +50,46 @@ fn is_top_of_main(note: &Note, regs: &[i64]) -> bool {
 const DOUBLE: &[u8] = b"fun main(n; r) { 1: op r = n * 2 -> 2 2: print r -> 3 3: return r }
     events compile main { anchors 0 assume 3 when 0 = 5 } begin main 5 limit 100 begin main 6 limit 100";
 
+fn fails_in_the_second(reports: &[Report]) -> bool {
+    let [first, second] = reports else {
+        return false;
+    };
+    comes_to(first, &[10], End::Returned(10), (4, 3, 0))
+        && comes_to(second, &[12], End::Returned(12), (4, 3, 1))
+}
+
 #[test]
 fn guard_holds_in_one_run_and_fails_in_the_next(rt: HostRuntime) -> Result<(), Fail> {
-    let played = played(&rt, rt.alloc(), DOUBLE, None)?;
-    let reports = played.reports.items();
-    assert!(rt; reports.len() == 2);
-    assert!(rt; counts(&reports[0]) == (4, 3, 0));
-    assert!(rt; counts(&reports[1]) == (4, 3, 1));
-    assert!(rt; reports[0].printed.items() == [10].as_slice());
-    assert!(rt; reports[1].printed.items() == [12].as_slice());
-    assert!(rt; reports[1].end == End::Returned(12));
+    let played = played(rt.alloc(), DOUBLE)?;
+    assert!(rt; fails_in_the_second(played.reports.items()));
     Ok(())
+}
+
+fn is_noted_in_the_second(reports: &[Report]) -> bool {
+    let [first, second] = reports else {
+        return false;
+    };
+    let [note] = second.notes.items() else {
+        return false;
+    };
+    first.notes.items().is_empty()
+        && is_top_of_main(note, &[6, 0])
+        && second.looks.items() == [look(MAIN, 2)].as_slice()
 }
 
 #[test]
 fn failed_guard_leaves_a_note(rt: HostRuntime) -> Result<(), Fail> {
-    let played = played(&rt, rt.alloc(), DOUBLE, None)?;
-    let reports = played.reports.items();
-    assert!(rt; reports.len() == 2);
-    assert!(rt; reports[0].notes.items().is_empty());
-    let notes = reports[1].notes.items();
-    assert!(rt; notes.len() == 1);
-    assert!(rt; is_top_of_main(&notes[0], &[6, 0]));
-    assert!(rt; reports[1].looks.items() == [look(MAIN, 2)].as_slice());
+    let played = played(rt.alloc(), DOUBLE)?;
+    assert!(rt; is_noted_in_the_second(played.reports.items()));
     Ok(())
+}
+
+fn enters_base_then_version(reports: &[Report]) -> bool {
+    let [report] = reports else {
+        return false;
+    };
+    let looks = [look(MAIN, 0), look(TWICE, 0), look(TWICE, 3)];
+    comes_to(report, &[], End::Returned(12), (7, 7, 0)) && report.looks.items() == looks.as_slice()
 }
 
 #[test]
@@ -76,48 +97,60 @@ fn next_call_enters_what_was_compiled_meanwhile(rt: HostRuntime) -> Result<(), F
     let text = b"fun main(n; r) { 1: call r = twice(n) -> 2 2: call r = twice(r) -> 3 3: return r }
         fun twice(x) { 1: op x = x * 2 -> 2 2: return x }
         events begin main 3 limit 100 step 1 2 compile twice { }";
-    let played = played(&rt, rt.alloc(), text, None)?;
-    assert!(rt; played.reports.items().len() == 1);
-    let report = &played.reports.items()[0];
-    assert!(rt; counts(report) == (7, 7, 0));
-    assert!(rt; report.end == End::Returned(12));
-    let looks = [look(MAIN, 0), look(TWICE, 0), look(TWICE, 3)];
-    assert!(rt; report.looks.items() == looks.as_slice());
+    let played = played(rt.alloc(), text)?;
+    assert!(rt; enters_base_then_version(played.reports.items()));
     Ok(())
+}
+
+fn are_both_skipped(skips: &[Skips]) -> bool {
+    let [skips] = skips else {
+        return false;
+    };
+    let first = (0, Skipped::NoPlace { label: Label(9) });
+    let second = (1, Skipped::NoPlace { label: Label(3) });
+    skips.items() == [first, second].as_slice()
 }
 
 #[test]
 fn labels_that_are_not_there_are_skipped(rt: HostRuntime) -> Result<(), Fail> {
     let text = b"fun main(n; r) { 1: op r = n + 1 -> 2 2: print r -> 3 3: return r }
         events compile main { anchors 9 assume 3 when never }";
-    let played = played(&rt, rt.alloc(), text, None)?;
-    assert!(rt; played.skips.items().len() == 1);
-    let first = (0, Skipped::NoPlace { label: Label(9) });
-    let second = (1, Skipped::NoPlace { label: Label(3) });
-    assert!(rt; played.skips.items()[0].items() == [first, second].as_slice());
+    let played = played(rt.alloc(), text)?;
+    assert!(rt; are_both_skipped(played.skips.items()));
     assert!(rt; played.compiled.items() == [Compiled::Published { offset: 2 }].as_slice());
     Ok(())
+}
+
+fn enters_the_first(reports: &[Report]) -> bool {
+    let [report] = reports else {
+        return false;
+    };
+    report.looks.items() == [look(MAIN, 2)].as_slice()
 }
 
 #[test]
 fn full_table_changes_nothing(rt: HostRuntime) -> Result<(), Fail> {
     let text = b"fun main() { 1: return 0 }
         events compile main { } compile main { } begin main limit 1";
-    let played = played(&rt, rt.alloc(), text, Some(30))?;
+    let played = played_in(rt.alloc(), text, 30)?;
     let full = Compiled::Full { next: 19, need: 17 };
     assert!(rt; played.compiled.items() == [Compiled::Published { offset: 2 }, full].as_slice());
-    assert!(rt; played.reports.items().len() == 1);
-    assert!(rt; played.reports.items()[0].looks.items() == [look(MAIN, 2)].as_slice());
+    assert!(rt; enters_the_first(played.reports.items()));
     Ok(())
+}
+
+fn stops_at_its_limit(reports: &[Report]) -> bool {
+    let [report] = reports else {
+        return false;
+    };
+    comes_to(report, &[], End::TurnLimit, (3, 3, 0))
 }
 
 #[test]
 fn run_that_has_time_left_goes_on_to_its_limit(rt: HostRuntime) -> Result<(), Fail> {
     let text = b"fun main() { 1: nop -> 1 } events begin main limit 3 step 1 2 step 1 9";
-    let played = played(&rt, rt.alloc(), text, None)?;
-    assert!(rt; played.reports.items().len() == 1);
-    assert!(rt; counts(&played.reports.items()[0]) == (3, 3, 0));
-    assert!(rt; played.reports.items()[0].end == End::TurnLimit);
+    let played = played(rt.alloc(), text)?;
+    assert!(rt; stops_at_its_limit(played.reports.items()));
     Ok(())
 }
 
@@ -132,11 +165,19 @@ struct Outcome<'a> {
 
 // No Assume failed, and each turn counted a base turn.
 fn is_plain(report: &Report, outcome: &Outcome<'_>) -> bool {
-    report.printed.items() == outcome.printed
-        && report.end == outcome.end
-        && counts(report) == (outcome.turns, outcome.turns, 0)
+    let turns = (outcome.turns, outcome.turns, 0);
+    comes_to(report, outcome.printed, outcome.end, turns)
         && report.notes.items().is_empty()
         && report.looks.items().len() == outcome.looks
+}
+
+fn are_plain(reports: &[Report], outcome: &Outcome<'_>) -> bool {
+    for report in reports {
+        if !is_plain(report, outcome) {
+            return false;
+        }
+    }
+    true
 }
 
 // Whether the runs go over base bodies up to the last one, which enters a version.
@@ -162,10 +203,8 @@ fn alike(
     outcome: Outcome<'_>,
 ) -> Result<(), Fail> {
     let text = format!(in alloc; "{program} events {events}")?;
-    let played = played(rt, alloc, text.as_bytes(), None)?;
-    for report in played.reports.items() {
-        assert!(rt; is_plain(report, &outcome));
-    }
+    let played = played(alloc, text.as_bytes())?;
+    assert!(rt; are_plain(played.reports.items(), &outcome));
     assert!(rt; ends_in_version(played.reports.items()));
     Ok(())
 }
