@@ -20,7 +20,8 @@ use Rattle.cj_draft.specs.Effects.{VersionEffect, Plain, Guarded, version_effect
 use Rattle.cj_draft.specs.WellNamed.{WellNamed, IsPlaceFine, IsBackFine}
 use Rattle.cj_draft.specs.Arrives.{place_at, Arrives}
 use Rattle.cj_draft.specs.Sound.{Sound, pair_of, IsOwn, guard_next, RowWithin}
-use Rattle.cj_draft.proofs.Lists.{at_index, all_from, fine_of}
+use Rattle.cj_ir.proofs.ListReads.{at_index}
+use Rattle.cj_draft.proofs.Lists.{all_from, fine_of}
 use Rattle.cj_draft.proofs.Insert.{IsKept, IsInserted, NewOn, inserted_sound}
 use Rattle.cj_draft.proofs.Rows.{guard_next-relabel, rows_inserted}
 use Rattle.cj_draft.specs.Edges.{fresh_label, led_to}

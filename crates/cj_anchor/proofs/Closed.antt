@@ -6,7 +6,8 @@ use Rattle.cj_ir.specs.declared.language.Program.{Program}
 use Rattle.cj_draft.specs.declared.code.Place.{Place}
 use Rattle.cj_draft.specs.declared.code.Code.{Code}
 use Rattle.cj_draft.specs.WellNamed.{WellNamed, IsPlaceFine}
-use Rattle.cj_draft.proofs.Lists.{all_at, all_from}
+use Rattle.cj_ir.proofs.ListReads.{all_at}
+use Rattle.cj_draft.proofs.Lists.{all_from}
 use Rattle.cj_draft.proofs.EdgeLemmas.{successors_within}
 use Rattle.cj_draft.specs.Edges.{successors}
 use Rattle.cj_anchor.specs.Search.{IsClosed}

@@ -24,7 +24,8 @@ use Rattle.cj_draft.specs.Arrives.{place_at}
 use Rattle.cj_draft.specs.Sound.{Sound, guard_next, RowWithin}
 use Rattle.cj_draft.specs.Relabel.{relabel}
 use Rattle.cj_draft.specs.Bodies.{IsNoAnchor, HasNoAnchors}
-use Rattle.cj_draft.proofs.Lists.{at_index, all_at, all_from}
+use Rattle.cj_ir.proofs.ListReads.{at_index, all_at}
+use Rattle.cj_draft.proofs.Lists.{all_from}
 use Rattle.cj_draft.proofs.Insert.{IsKept}
 use Rattle.cj_draft.proofs.Rows.{guard_next-relabel}
 use Rattle.cj_draft.proofs.Lowering.{NoPair, ReachesOn, lowered_sound}

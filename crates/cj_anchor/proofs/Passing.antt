@@ -11,7 +11,7 @@ use Rattle.cj_draft.specs.declared.code.Place.{Place}
 use Rattle.cj_draft.specs.declared.code.Code.{Code}
 use Rattle.cj_draft.specs.Arrives.{place_at}
 use Rattle.cj_draft.specs.Sound.{guard_next, RowWithin}
-use Rattle.cj_draft.proofs.Lists.{all_at}
+use Rattle.cj_ir.proofs.ListReads.{all_at}
 use Rattle.cj_draft.specs.Edges.{successors}
 use Rattle.cj_rows.proofs.RowLemmas.{row_more}
 use Rattle.cj_rows.specs.Rows.{anchor_next, anchor_in, anchor_at}

@@ -14,7 +14,7 @@ use Rattle.cj_draft.specs.declared.code.Code.{Code}
 use Rattle.cj_draft.specs.Arrives.{place_at}
 use Rattle.cj_anchor.specs.Lowering.{passed, Reached, Entry, Edge, AreKept}
 use Rattle.cj_anchor.specs.Search.{IsClosed, IsSearch, Grows, AreLed, IsFollowed, AreFollowed}
-use Rattle.cj_draft.proofs.Lists.{all_at}
+use Rattle.cj_ir.proofs.ListReads.{all_at}
 use Rattle.cj_draft.specs.Edges.{successors}
 use Rattle.cj_anchor.proofs.Passing.{passed_within, next_within}
 use Rattle.cj_rows.proofs.ListReads.{get-set_same, get-set_other, get-append_left, contains-at, at-contains}

@@ -18,7 +18,8 @@ use Rattle.cj_draft.specs.declared.passes.Skipped.{Skipped}
 use Rattle.cj_draft.specs.WellNamed.{WellNamed, IsGuardWithin, IsVInstrFine, IsPlaceFine}
 use Rattle.cj_draft.specs.Arrives.{place_at}
 use Rattle.cj_draft.specs.Sound.{Sound, guard_next, RowWithin}
-use Rattle.cj_draft.proofs.Lists.{at_index, all_from, fine_of}
+use Rattle.cj_ir.proofs.ListReads.{at_index}
+use Rattle.cj_draft.proofs.Lists.{all_from, fine_of}
 use Rattle.cj_draft.proofs.SamePlaces.{KeepsPlaces}
 use Rattle.cj_draft.proofs.Immediate as direct
 use Rattle.cj_draft.proofs.MoreGuards as more

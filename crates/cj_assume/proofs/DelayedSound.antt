@@ -21,7 +21,8 @@ use Rattle.cj_draft.specs.Arrives.{place_at, Arrives, instr_of}
 use Rattle.cj_draft.specs.declared.points.PointFrame.{PointFrame}
 use Rattle.cj_draft.specs.Sound.{Sound, pair_of, IsOwn, IsSilentIn, IsCarried, SoundEffect, guard_next, RowWithin}
 use Rattle.cj_draft.specs.Relabel.{relabel}
-use Rattle.cj_draft.proofs.Lists.{at_index, all_from, fine_of}
+use Rattle.cj_ir.proofs.ListReads.{at_index}
+use Rattle.cj_draft.proofs.Lists.{all_from, fine_of}
 use Rattle.cj_draft.specs.Points.{top_of, stack_of, frames_of}
 use Rattle.cj_draft.specs.Effects.{Plain, version_effect}
 use Rattle.cj_base.specs.Machine.{Stack, Fault, BadAddress, ZeroDivisor, Effect, On, with_value, cell, with_cell, branch, op_effect, load_effect, store_effect}

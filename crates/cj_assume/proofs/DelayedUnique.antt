@@ -13,7 +13,7 @@ use Rattle.cj_draft.specs.declared.code.Back.{Back}
 use Rattle.cj_draft.specs.declared.code.Place.{Place}
 use Rattle.cj_draft.specs.declared.code.Code.{Code}
 use Rattle.cj_draft.specs.Arrives.{place_at}
-use Rattle.cj_draft.proofs.Lists.{at_index}
+use Rattle.cj_ir.proofs.ListReads.{at_index}
 use Rattle.cj_rows.specs.Pairs.{AreWith}
 use Rattle.cj_assume.specs.DelayedAssume.{on_path, turns_back, path_pair, with_backs, AreMarked, fresh_place, delayed, IsDelayed, IsAfterDelay}
 use Rattle.cj_rows.proofs.WithPairs.{with_alike}

@@ -12,7 +12,7 @@ use Rattle.cj_draft.specs.declared.code.Place.{Place}
 use Rattle.cj_draft.specs.declared.code.Code.{Code}
 use Rattle.cj_draft.specs.Arrives.{place_at}
 use Rattle.cj_draft.specs.WellNamed.{WellNamed, IsPlaceFine}
-use Rattle.cj_draft.proofs.Lists.{all_at}
+use Rattle.cj_ir.proofs.ListReads.{all_at}
 use Rattle.cj_draft.specs.Edges.{successors}
 use Rattle.cj_draft.proofs.EdgeLemmas.{successors_within}
 use Rattle.cj_assume.specs.DelayedAssume.{is_label, all_nexts, edges_into}

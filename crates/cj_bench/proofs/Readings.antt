@@ -5,8 +5,8 @@ use Rattle.cj_ir.specs.declared.script.Input.{Input}
 use Rattle.cj_tokens.specs.declared.refusal.Refused.{Refused}
 use Rattle.cj_script.specs.Fitting.{FitsScript}
 use Rattle.cj_text.specs.Reads.{Reads}
-use Rattle.cj_canonical.proofs.InputAgain.{printed_is_read}
-use Rattle.cj_canonical.proofs.OneReading.{only_reading}
+use Rattle.cj_text.proofs.InputAgain.{printed_is_read}
+use Rattle.cj_text.proofs.OneReading.{only_reading}
 use Rattle.cj_bench.specs.Generated.{generated, generated_text}
 use Rattle.cj_bench.proofs.Fine.{well_formed, script_fits}
 use Rattle.cj_bench.proofs.Written.{program_written, script_written}

@@ -8,7 +8,7 @@ use Rattle.std.proofs.lemmas.List.Sums.{AllPass-from_list_all}
 use Rattle.cj_ir.specs.Texts.{is_name}
 use Rattle.cj_ir.specs.declared.language.Instr.{Instr}
 use Rattle.cj_ir.specs.declared.language.Line.{Line}
-use Rattle.cj_canonical.specs.Written.{IsValue, IsOperandWritten, IsInstrWritten, IsFunctionWritten, IsProgramWritten, IsSetupWritten, IsCallWritten, IsScriptWritten}
+use Rattle.cj_text.specs.Written.{IsValue, IsOperandWritten, IsInstrWritten, IsFunctionWritten, IsProgramWritten, IsSetupWritten, IsCallWritten, IsScriptWritten}
 use Rattle.cj_bench.specs.Generated.{drawn, after, reg, s, b, lines_of, eighth_of, function_name, register_names, function_of, function_drawn, functions_drawn, call_drawn, calls_drawn, generated_program, generated_script}
 use Rattle.cj_bench.proofs.Fine.{all_made}
 

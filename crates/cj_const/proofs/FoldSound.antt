@@ -24,7 +24,8 @@ use Rattle.cj_draft.specs.Effects.{version_effect}
 use Rattle.cj_draft.specs.WellNamed.{IsPlaceFine, AreFactsFine, HasFineFacts, IsContextOf, WellNamed}
 use Rattle.cj_draft.specs.Arrives.{place_at, Satisfies, Allows}
 use Rattle.cj_draft.specs.Sound.{IsSilentIn, guard_next, RowWithin, AreAmong, Sound}
-use Rattle.cj_draft.proofs.Lists.{all_at, all_from}
+use Rattle.cj_ir.proofs.ListReads.{all_at}
+use Rattle.cj_draft.proofs.Lists.{all_from}
 use Rattle.cj_draft.proofs.FactLists.{among-allowed}
 use Rattle.cj_draft.proofs.Refine.{Flows}
 use Rattle.cj_const.specs.Knowledge.{Knowledge, told_by, known_value}

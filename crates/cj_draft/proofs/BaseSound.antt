@@ -31,7 +31,8 @@ use Rattle.cj_draft.specs.WellNamed.{IsPointFrameFine, IsPointFine, IsFailure, I
 use Rattle.cj_draft.specs.Arrives.{place_at, Admits, Arrives, IsAtCall, returned_by, after_call}
 use Rattle.cj_draft.specs.Sound.{AllOwn, Resumes, SoundEffect, guard_next, RowWithin, AreAmong, Sound}
 use Rattle.cj_draft.specs.BaseBody.{identity, as_version, base_point, base_place, base_code}
-use Rattle.cj_draft.proofs.Lists.{all_at, all_from}
+use Rattle.cj_ir.proofs.ListReads.{all_at}
+use Rattle.cj_draft.proofs.Lists.{all_from}
 use Rattle.cj_draft.proofs.Adopted.{no_facts}
 use Rattle.cj_draft.proofs.BasePlaces.{length-identity, identity_within, identity_reads, base_place_at, length-base_code}
 

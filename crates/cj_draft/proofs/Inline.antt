@@ -26,7 +26,7 @@ use Rattle.cj_draft.specs.WellNamed.{IsVInstrFine, IsPlaceFine, WellNamed}
 use Rattle.cj_draft.specs.Arrives.{place_at, Satisfies, Allows, Admits, IsAtCall, left_waiting, after_call}
 use Rattle.cj_draft.specs.Sound.{StepsOn, Resumes, StepsIn, SoundEffect, RowWithin, AreAmong, Sound}
 use Rattle.cj_draft.specs.Inlining.{shift_label, joined_facts, appended_frames, entry_pairs, call_place}
-use Rattle.cj_draft.proofs.Lists.{at_index, all_at}
+use Rattle.cj_ir.proofs.ListReads.{at_index, all_at}
 use Rattle.cj_draft.proofs.Extend.{HasRoom, resumes_wider, effect_wider, effect-extend, dest_within, frames_left, allows_right}
 use Rattle.cj_draft.proofs.InlinedPlaces.{IsInlined, Holds, inlined_place, resumes_in}
 use Rattle.cj_draft.proofs.InlineParts.{params_within, call_turn, give_left, appended_is, entry_move_is, entry_grows, allows_joined}

@@ -22,7 +22,7 @@ use Rattle.cj_draft.specs.Arrives.{place_at, Allows, Admits, Arrives}
 use Rattle.cj_draft.specs.Sound.{pair_of, IsOwn, IsCarried, IsSilentIn, Resumes, Passes, SoundEffect, RowWithin, AreAmong, Sound}
 use Rattle.cj_draft.specs.Relabel.{relabel}
 use Rattle.cj_base.proofs.SameLaws.{same_refl}
-use Rattle.cj_draft.proofs.Lists.{at_index}
+use Rattle.cj_ir.proofs.ListReads.{at_index}
 use Rattle.cj_draft.proofs.Ways.{effect-relabel, silent-relabel, Way, Grown, WaysOn, effect_way, resumes_way}
 
 -- A place as the new code has it: relabelled, with the pairs of New added.

@@ -20,7 +20,7 @@ use Rattle.cj_draft.specs.WellNamed.{WellNamed, IsPlaceFine, HasFineFacts}
 use Rattle.cj_draft.specs.Arrives.{place_at, Allows, Admits, Arrives}
 use Rattle.cj_draft.specs.Sound.{IsCarried, IsSilentIn, Resumes, Passes, StepsGuarded, SoundEffect, guard_next, RowWithin, AreAmong, Sound}
 use Rattle.cj_base.proofs.SameLaws.{same_refl, same_trans}
-use Rattle.cj_draft.proofs.Lists.{at_index, all_at}
+use Rattle.cj_ir.proofs.ListReads.{at_index, all_at}
 use Rattle.cj_draft.proofs.FactLists.{among-allowed}
 use Rattle.cj_draft.proofs.Ways.{effect-relabel, silent-relabel, Way, Grown, WaysOn, effect_way, resumes_way}
 use Rattle.cj_draft.proofs.Insert.{IsKept}

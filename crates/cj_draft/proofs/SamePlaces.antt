@@ -16,7 +16,7 @@ use Rattle.cj_draft.specs.Effects.{VersionEffect, Plain, Guarded}
 use Rattle.cj_draft.specs.WellNamed.{WellNamed}
 use Rattle.cj_draft.specs.Arrives.{place_at, Allows, Arrives}
 use Rattle.cj_draft.specs.Sound.{IsCarried, AreAmong}
-use Rattle.cj_draft.proofs.Lists.{at_index}
+use Rattle.cj_ir.proofs.ListReads.{at_index}
 use Rattle.cj_draft.proofs.Ways.{Way, WaysOn}
 
 -- at each label of code, code' has a place with the same point, facts and pairs

@@ -28,7 +28,7 @@ use Rattle.cj_draft.specs.declared.points.Point.{Point}
 use Rattle.cj_ir.specs.declared.language.Guard.{Guard}
 use Rattle.cj_draft.specs.Effects.{guards_hold, version_effect}
 use Rattle.cj_draft.specs.Sound.{pair_of, StepsGuarded, SoundEffect, Sound}
-use Rattle.cj_draft.proofs.Lists.{all_at}
+use Rattle.cj_ir.proofs.ListReads.{all_at}
 use Rattle.cj_activations.specs.Activations.{VersionFrame, Active, InBase, InVersion, Paused, BaseWaits, VersionWaits}
 use Rattle.cj_engine.specs.Versions.{State, Codes}
 use Rattle.cj_engine.specs.CodeMaps.{SoundCodes}

@@ -11,7 +11,7 @@ use Rattle.cj_base.specs.declared.machine.End.{End}
 use Rattle.cj_base.specs.declared.machine.End.TheVariants.{TurnLimit}
 use Rattle.cj_base.specs.Machine.{Effect, On, Calls, Returns, Faults, effect, resumed}
 use Rattle.cj_base.specs.Run.{Begun}
-use Rattle.cj_draft.proofs.Lists.{all_at}
+use Rattle.cj_ir.proofs.ListReads.{all_at}
 use Rattle.cj_calls.specs.declared.report.Look.{Look}
 use Rattle.cj_calls.specs.declared.report.Report.{Report}
 use Rattle.cj_activations.specs.Activations.{Active, InBase, InVersion, Paused, BaseWaits, VersionWaits, Stacked}

@@ -34,7 +34,7 @@ use Rattle.cj_draft.specs.Effects.{VersionEffect, Plain, Guarded, version_effect
 use Rattle.cj_draft.specs.Arrives.{place_at, Satisfies, Arrives, IsAtCall, left_by, left_waiting, returned_by, after_call}
 use Rattle.cj_draft.specs.WellNamed.{IsPlaceFine, IsBackFine}
 use Rattle.cj_draft.specs.Sound.{pair_of, StepsOn, Resumes, StepsIn, Passes, SoundEffect, guard_next, RowWithin}
-use Rattle.cj_draft.proofs.Lists.{all_at}
+use Rattle.cj_ir.proofs.ListReads.{all_at}
 use Rattle.cj_calls.specs.declared.report.Look.{Look}
 use Rattle.cj_calls.specs.declared.report.Note.{Note}
 use Rattle.cj_calls.specs.Reports.{NoteStands, NotesStand}

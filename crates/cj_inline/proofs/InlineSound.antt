@@ -27,7 +27,8 @@ use Rattle.cj_draft.specs.WellNamed.{IsVInstrFine, IsBackFine, IsPlaceFine, Well
 use Rattle.cj_draft.specs.Arrives.{place_at}
 use Rattle.cj_draft.specs.Sound.{Sound, guard_next}
 use Rattle.cj_draft.specs.Inlining.{shift_label, joined_facts, appended_frames, call_place}
-use Rattle.cj_draft.proofs.Lists.{at_index, all_at, all_from, fine_of}
+use Rattle.cj_ir.proofs.ListReads.{at_index, all_at}
+use Rattle.cj_draft.proofs.Lists.{all_from, fine_of}
 use Rattle.cj_draft.proofs.InlinedPlaces.{IsInlined, HasFirst, first_of_some}
 use Rattle.cj_draft.proofs.Inline.{IsInlining, inlining_sound}
 use Rattle.cj_rows.specs.Rows.{guard_in, guard_at}

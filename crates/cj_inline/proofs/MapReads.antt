@@ -4,7 +4,7 @@ use Rattle.std.specs.Prelude.{slice_get, Contains}
 use Rattle.std.specs.Option.{option_map}
 use Rattle.std.proofs.lemmas.List.{length-map}
 use Rattle.std.proofs.lemmas.Option.{same_Some, slice_get-map, slice_get_within}
-use Rattle.cj_draft.proofs.Lists.{at_index}
+use Rattle.cj_ir.proofs.ListReads.{at_index}
 use Rattle.cj_rows.proofs.ListReads.{contains-at, at-contains}
 
 pub get-append_after : {X : Type 0} (xs ys : List X) (i : ℕ) → slice_get (xs ++ ys) (length xs + i) ≡ slice_get ys i

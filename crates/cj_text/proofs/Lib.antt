@@ -1,1 +1,16 @@
 pub mod Readings
+pub mod Chunks
+pub mod Trees
+pub mod Lists
+pub mod Known
+pub mod KnownScript
+pub mod PrintedProgram
+pub mod PrintedScript
+pub mod MeantInstructions
+pub mod MeantFunctions
+pub mod MeantScript
+pub mod InputAgain
+pub mod Walks
+pub mod ProgramAgain
+pub mod OnlyRead
+pub mod OneReading

@@ -1,2 +1,4 @@
 pub mod Reads
 pub mod Answers
+pub mod Written
+pub mod Canonical

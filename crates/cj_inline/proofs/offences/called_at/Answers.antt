@@ -3,7 +3,7 @@ use Rattle.cj_draft.specs.declared.code.Place.{Place}
 use Rattle.cj_draft.specs.declared.code.Code.{Code}
 use Rattle.cj_draft.specs.WellNamed.{IsPlaceFine}
 use Rattle.cj_draft.specs.Arrives.{place_at}
-use Rattle.cj_draft.proofs.Lists.{all_at}
+use Rattle.cj_ir.proofs.ListReads.{all_at}
 use Rattle.cj_rows.proofs.ListReads.{get-read}
 use Rattle.cj_inline.specs.Inlining.{called, called_in, called_at, offence_by, offence_at, inline_offence}
 use Rattle.cj_inline.proofs.Conditions.{called_exists}

@@ -3,7 +3,7 @@ use Rattle.std.specs.Prelude.{slice_index_or}
 use Rattle.std.specs.Option.{option_map}
 use Rattle.cj_draft.specs.WellNamed.{IsPlaceFine}
 use Rattle.cj_draft.specs.Arrives.{place_at}
-use Rattle.cj_draft.proofs.Lists.{all_at}
+use Rattle.cj_ir.proofs.ListReads.{all_at}
 use Rattle.cj_draft.proofs.EdgeLemmas.{successor_within}
 use Rattle.cj_const.specs.Knowledge.{known}
 use Rattle.cj_const.proofs.SearchCalls.{read-at, place-read, arrival-wide, passed-unreached, passed-nothing}

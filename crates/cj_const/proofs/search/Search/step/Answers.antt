@@ -2,7 +2,7 @@ use Rattle.std.proofs.Common.{◌≡◌, ◌<◌, length, sym, Some, arith}
 use Rattle.std.specs.Prelude.{slice_get}
 use Rattle.cj_ir.specs.declared.language.Label.{Label}
 use Rattle.cj_draft.specs.Arrives.{place_at}
-use Rattle.cj_draft.proofs.Lists.{all_at}
+use Rattle.cj_ir.proofs.ListReads.{all_at}
 use Rattle.cj_draft.specs.Edges.{listed}
 use Rattle.cj_const.proofs.SearchCalls.{place-read, following-of, edges-of, search-of, taken-work}
 use Rattle.cj_const.proofs.search.Search.step.Goals as goal

@@ -1,6 +1,0 @@
-use Rattle.cj_canonical.specs.Written.{IsCallWritten}
-use Rattle.cj_canonical.proofs.Walks.{HoldsBelow}
-use Rattle.cj_canonical.proofs.written.visit_calls.Given as goal
-
-abbrev pub invariant-loop-call : goal.invariant-loop-call
-invariant-loop-call l = HoldsBelow IsCallWritten l.call-index l.calls

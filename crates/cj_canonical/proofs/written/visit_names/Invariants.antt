@@ -1,6 +1,0 @@
-use Rattle.cj_canonical.specs.Written.{IsName}
-use Rattle.cj_canonical.proofs.Walks.{HoldsBelow}
-use Rattle.cj_canonical.proofs.written.visit_names.Given as goal
-
-abbrev pub invariant-loop-name : goal.invariant-loop-name
-invariant-loop-name l = HoldsBelow IsName l.name-index l.names

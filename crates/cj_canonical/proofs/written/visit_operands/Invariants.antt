@@ -1,6 +1,0 @@
-use Rattle.cj_canonical.specs.Written.{IsOperandWritten}
-use Rattle.cj_canonical.proofs.Walks.{HoldsBelow}
-use Rattle.cj_canonical.proofs.written.visit_operands.Given as goal
-
-abbrev pub invariant-loop-operand : goal.invariant-loop-operand
-invariant-loop-operand l = HoldsBelow IsOperandWritten l.operand-index l.operands

@@ -1,6 +1,0 @@
-use Rattle.cj_canonical.specs.Written.{IsSetupWritten}
-use Rattle.cj_canonical.proofs.Walks.{HoldsBelow}
-use Rattle.cj_canonical.proofs.written.visit_setups.Given as goal
-
-abbrev pub invariant-loop-setup : goal.invariant-loop-setup
-invariant-loop-setup l = HoldsBelow IsSetupWritten l.setup-index l.setups

@@ -1,6 +1,0 @@
-use Rattle.cj_canonical.specs.Written.{IsValue}
-use Rattle.cj_canonical.proofs.Walks.{HoldsBelow}
-use Rattle.cj_canonical.proofs.written.visit_values.Given as goal
-
-abbrev pub invariant-loop-value : goal.invariant-loop-value
-invariant-loop-value l = HoldsBelow IsValue l.value-index l.values
