@@ -30,8 +30,10 @@ use Rattle.cj_draft.specs.Skips.{unless}
 use Rattle.cj_rows.specs.Rows.{guard_in, guard_at, anchor_at, anchor_in, anchor_next}
 use Rattle.cj_rows.proofs.ListReads.{get-set_same, get-set_other, get-append_left, get-append_end}
 use Rattle.cj_rows.proofs.RowLemmas.{guard_place, has_guard}
-use Rattle.cj_assume.specs.ImmediateAssume.{guards_at, full_offence, assume_offence, with_instr, with_places, with_more, appended_in, appended, anchor_to, assume_of, inserted_in, inserted, assumed_by, assumed_after, assumed, assumed_or_left}
-use Rattle.cj_assume.proofs.Conditions.{CanAssume, can_assume, HasAssume, has_assume, guards_within, room_for_more, HasRoom, room_for_fresh}
+use Rattle.cj_assume.specs.ImmediateAssume.{guards_at, full_offence, assume_offence, with_more, appended_in, appended, anchor_to, assume_of, inserted_in, inserted, assumed_by, assumed_after, assumed, assumed_or_left}
+use Rattle.cj_rows.specs.Places.{with_instr, with_places}
+use Rattle.cj_assume.proofs.Conditions.{CanAssume, can_assume, HasAssume, has_assume, room_for_more, HasRoom, room_for_fresh}
+use Rattle.cj_rows.proofs.GuardConditions.{guards_within}
 use Rattle.cj_assume.proofs.AssumeRows.{row_same, HasGuardsAfter, rows_after}
 
 -- ---- further guards of an Assume

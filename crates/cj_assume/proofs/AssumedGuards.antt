@@ -12,7 +12,8 @@ use Rattle.cj_draft.specs.declared.code.Code.{Code}
 use Rattle.cj_draft.specs.Edges.{fresh_label}
 use Rattle.cj_rows.proofs.ListReads.{get-set_same, get-set_other, get-append_left, get-append_end}
 use Rattle.cj_rows.specs.Rows.{anchor_at, anchor_in, anchor_next}
-use Rattle.cj_assume.specs.ImmediateAssume.{guard_count, count_in, guards_at, assume_offence, with_instr, with_places, with_more, appended_in, appended, anchor_to, assume_of, inserted_in, inserted, assumed_by, assumed_after, assumed, IsAfter, HasGuardsNext}
+use Rattle.cj_assume.specs.ImmediateAssume.{guard_count, count_in, guards_at, assume_offence, with_more, appended_in, appended, anchor_to, assume_of, inserted_in, inserted, assumed_by, assumed_after, assumed, IsAfter, HasGuardsNext}
+use Rattle.cj_rows.specs.Places.{with_instr, with_places}
 use Rattle.cj_assume.proofs.Conditions.{CanAssume, can_assume, has_assume}
 use Rattle.cj_assume.proofs.AssumeSound.{anchor_is, not_left}
 

@@ -2,12 +2,3 @@ pub mod Conditions
 pub mod AssumeRows
 pub mod AssumeSound
 pub mod AssumedGuards
-pub mod Counted
-pub mod PathSteps
-pub mod DelayConditions
-pub mod OneEdge
-pub mod DelayedSound
-pub mod Marking
-pub mod Delaying
-pub mod DelayedUnique
-pub mod MissingLabels

@@ -1,21 +1,21 @@
 -- An Assume directly after an Anchor.
-use Rattle.std.specs.Prelude.{◌≡◌, ℕ, ◌+◌, Bool, true, false, nat_lt, List, [], ◌∷◌, ◌++◌, length, Option, Some, None, slice_set}
+use Rattle.std.specs.Prelude.{◌≡◌, ℕ, ◌+◌, List, [], ◌∷◌, ◌++◌, length, Option, Some, None, slice_set}
 use Rattle.cj_ir.specs.declared.language.Label.{Label}
 use Rattle.cj_ir.specs.declared.language.Guard.{Guard}
-use Rattle.cj_ir.specs.declared.language.Guard.TheVariants.{Is, Never}
 use Rattle.cj_draft.specs.declared.points.Point.{Point}
 use Rattle.cj_draft.specs.declared.instructions.VInstr.{VInstr}
 use Rattle.cj_draft.specs.declared.instructions.VInstr.TheVariants.{Assume, Anchor}
 use Rattle.cj_draft.specs.declared.code.Place.{Place}
 use Rattle.cj_draft.specs.declared.code.Code.{Code}
-use Rattle.cj_draft.specs.declared.passes.Room.TheVariants.{Guards}
 use Rattle.cj_draft.specs.declared.passes.Skipped.{Skipped}
-use Rattle.cj_draft.specs.declared.passes.Skipped.TheVariants.{NoPlace, NotAnchor, NoRegister}
+use Rattle.cj_draft.specs.declared.passes.Skipped.TheVariants.{NoPlace, NotAnchor}
 use Rattle.cj_draft.specs.Arrives.{place_at}
 use Rattle.cj_draft.specs.Edges.{fresh_label}
-use Rattle.cj_draft.specs.Skips.{told, unless}
+use Rattle.cj_draft.specs.Skips.{unless}
 use Rattle.cj_rows.specs.Rows.{fresh_row, anchor_next, anchor_at}
-use Rattle.cj_rows.specs.Rooms.{if_full, room_offence}
+use Rattle.cj_rows.specs.Rooms.{room_offence}
+use Rattle.cj_rows.specs.Guards.{or_next, register_offence, guards_offence}
+use Rattle.cj_rows.specs.Places.{with_instr, with_places}
 
 -- ---- what stands at a label
 
@@ -32,28 +32,6 @@ unfoldable pub guards_at : Code → Label → Option ℕ
 guards_at code label = count_in (place_at code label)
 
 -- ---- the conditions
-
-unfoldable pub or_next : Option Skipped → Option Skipped → Option Skipped
-or_next None others = others
-or_next (Some skipped) others = Some skipped
-
-unfoldable pub if_missing : Bool → Skipped → Option Skipped
-if_missing true skipped = None
-if_missing false skipped = Some skipped
-
--- a guard whose register is not among so many
-unfoldable pub guard_offence : ℕ → Guard → Option Skipped
-guard_offence regs (Is reg value) = if_missing (nat_lt reg.0 regs) (NoRegister reg)
-guard_offence regs Never = None
-
--- the first of the guards whose register is not among so many
-unfoldable pub register_offence : ℕ → List Guard → Option Skipped
-register_offence regs [] = None
-register_offence regs (guard ∷ guards) = or_next (guard_offence regs guard) (register_offence regs guards)
-
--- an Assume may have 8 guards
-unfoldable pub guards_offence : ℕ → Option Skipped
-guards_offence count = if_full (nat_lt 8 count) Guards (told count) None
 
 -- For that many guards directly after the Anchor at a label: they go to an Assume that has so many already, or else to a
 -- fresh one. A fresh one makes the Anchor's row longer by one, as it would directly before the Anchor.
@@ -76,12 +54,6 @@ unfoldable pub assume_offence : Code → Label → List Guard → Option Skipped
 assume_offence code anchor guards = offence_at code anchor guards (place_at code anchor)
 
 -- ---- the code that is made
-
-unfoldable pub with_instr : VInstr → Place → Place
-with_instr instr place = record { instr = instr; point = place.point; facts = place.facts; backs = place.backs }
-
-unfoldable pub with_places : Code → List Place → Code
-with_places code places = record { function = code.function; regs = code.regs; entry = code.entry; places = places }
 
 -- an Assume with further guards, after its own
 unfoldable pub with_more : List Guard → VInstr → VInstr

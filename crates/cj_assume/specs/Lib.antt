@@ -1,4 +1,1 @@
 pub mod ImmediateAssume
-pub mod DelayedAssume
-pub mod CountedEdges
-pub mod DelaySteps

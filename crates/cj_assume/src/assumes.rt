@@ -4,10 +4,10 @@ ghost use Rattle.std.specs.Prelude.{◌≡◌, ◌<◌, ◌≤◌, None, IfOk, l
 ghost use Rattle.cj_assume.specs.ImmediateAssume.{assume_offence, appended, inserted, assumed, assumed_or_left, IsAfter};
 
 use crate::offences::{assume_offence, guards_at};
-use crate::places::{anchor_to, assume_of, with_instr, with_more};
+use crate::places::{anchor_to, assume_of, with_more};
 use cj_draft::{Code, Draft, Skipped};
 use cj_ir::{Guards, Label, NoMemory};
-use cj_rows::anchor_at;
+use cj_rows::{anchor_at, with_instr};
 
 /// The draft with the guards assumed directly after the Anchor at a label. Where an Assume follows the Anchor, they are
 /// appended to its own guards, and its target stays. Else a fresh label, the last one, holds an Assume with the Anchor's
@@ -52,7 +52,7 @@ pub(crate) fn assumed(code: Code, anchor: Label, guards: &Guards) -> Result<Code
 }
 
 /// The code with the guards appended to those of the Assume at a label.
-#[tactic(auto, unfolding(crate::specs::ImmediateAssume::appended, crate::specs::ImmediateAssume::appended_in, crate::specs::ImmediateAssume::with_places))]
+#[tactic(auto, unfolding(crate::specs::ImmediateAssume::appended, crate::specs::ImmediateAssume::appended_in, cj_rows::specs::Places::with_places))]
 fn appended(code: Code, label: Label, guards: &Guards) -> Result<Code, NoMemory>
     ensures { IfOk result (λ made. made ≡ appended code label guards.now) }
 {
@@ -73,7 +73,7 @@ fn appended(code: Code, label: Label, guards: &Guards) -> Result<Code, NoMemory>
 }
 
 /// The code with a fresh Assume directly after the Anchor at a label.
-#[tactic(auto, unfolding(crate::specs::ImmediateAssume::inserted, crate::specs::ImmediateAssume::inserted_in, cj_draft::specs::Edges::fresh_label, crate::specs::ImmediateAssume::with_places))]
+#[tactic(auto, unfolding(crate::specs::ImmediateAssume::inserted, crate::specs::ImmediateAssume::inserted_in, cj_draft::specs::Edges::fresh_label, cj_rows::specs::Places::with_places))]
 fn inserted(code: Code, anchor: Label, guards: &Guards) -> Result<Code, NoMemory>
     requires few { length code.places ≤ 512 }
     ensures { IfOk result (λ made. made ≡ inserted code anchor guards.now) }

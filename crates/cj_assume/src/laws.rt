@@ -3,10 +3,8 @@
 ghost use Rattle.std.specs.Prelude.{◌≡◌, None, List};
 ghost use Rattle.cj_ir.specs.declared.language.Guard.{Guard};
 ghost use Rattle.cj_ir.specs.declared.language.Label.{Label};
-ghost use Rattle.cj_ir.specs.declared.language.Program.{Program};
 ghost use Rattle.cj_draft.specs.declared.code.Code.{Code};
 ghost use Rattle.cj_assume.specs.ImmediateAssume.{assume_offence, IsAfter, HasGuardsNext};
-ghost use Rattle.cj_assume.specs.DelayedAssume.{IsAfterDelay};
 
 /// A code has one code after an immediate Assume.
 pub fn immediate_is_unique()
@@ -18,10 +16,4 @@ pub fn immediate_is_unique()
 pub fn guards_are_assumed()
     ensures { (code : Code) (anchor : Label) (guards : List Guard) (made : Code) →
         assume_offence code anchor guards ≡ None → IsAfter code anchor guards made → HasGuardsNext made anchor guards }
-{}
-
-/// A code has one code after a delayed Assume.
-pub fn delayed_is_unique()
-    ensures { (P : Program) (code : Code) (path : List Label) (guards : List Guard) (one other : Code) →
-        IsAfterDelay P code path guards one → IsAfterDelay P code path guards other → one ≡ other }
 {}

@@ -1,17 +1,14 @@
 //! Why an Assume can't stand directly after an Anchor.
 
-ghost use Rattle.std.specs.Prelude.{◌≡◌, ◌+◌, ◌≤◌, length};
-ghost use Rattle.cj_assume.specs.ImmediateAssume.{guards_at, guard_offence, register_offence, guards_offence, full_offence, assume_offence};
+ghost use Rattle.std.specs.Prelude.{◌≡◌, ◌≤◌, length};
+ghost use Rattle.cj_assume.specs.ImmediateAssume.{guards_at, full_offence, assume_offence};
 
-use cj_draft::{Code, Room, Skipped, VInstr, told};
+use cj_draft::{Code, Skipped, VInstr};
 use cj_ir::{Guard, Label};
-use cj_rows::{anchor_next, fresh_row, room_offence};
-
-/// Guards of an Assume, at most.
-const MAX_GUARDS: usize = 8;
+use cj_rows::{anchor_next, fresh_row, guards_offence, register_offence, room_offence};
 
 /// Why no Assume with these guards stands directly after the Anchor: the first of the conditions that holds.
-#[tactic(auto, unfolding(crate::specs::ImmediateAssume::assume_offence, crate::specs::ImmediateAssume::offence_at, crate::specs::ImmediateAssume::offence_after, crate::specs::ImmediateAssume::or_next))]
+#[tactic(auto, unfolding(crate::specs::ImmediateAssume::assume_offence, crate::specs::ImmediateAssume::offence_at, crate::specs::ImmediateAssume::offence_after, cj_rows::specs::Guards::or_next))]
 pub(crate) fn assume_offence(code: &Code, anchor: Label, guards: &[Guard]) -> Option<Skipped>
     requires { length code.now.places ≤ 512 }
     ensures { result ≡ assume_offence code.now anchor guards.now }
@@ -42,36 +39,8 @@ pub(crate) fn guards_at(code: &Code, label: Label) -> Option<usize>
     }
 }
 
-/// The first of the guards whose register is not in a draft with that many.
-pub(crate) fn register_offence(regs: u32, guards: &[Guard]) -> Option<Skipped>
-    ensures { result ≡ register_offence regs guards.now }
-{
-    for guard in guards {
-        if let Some(skipped) = guard_offence(regs, guard) {
-            return Some(skipped);
-        }
-    }
-    None
-}
-
-#[tactic(auto, unfolding(crate::specs::ImmediateAssume::guard_offence, crate::specs::ImmediateAssume::if_missing))]
-fn guard_offence(regs: u32, guard: &Guard) -> Option<Skipped>
-    ensures { result ≡ guard_offence regs guard.now }
-{
-    match *guard {
-        Guard::Is { reg, .. } => {
-            if reg.0 < regs {
-                None
-            } else {
-                Some(Skipped::NoRegister { reg })
-            }
-        }
-        Guard::Never => None,
-    }
-}
-
 /// Which room is missing for that many guards, where the Assume after the Anchor has `own` already, or is a fresh one.
-#[tactic(auto, unfolding(crate::specs::ImmediateAssume::full_offence, crate::specs::ImmediateAssume::or_next))]
+#[tactic(auto, unfolding(crate::specs::ImmediateAssume::full_offence, cj_rows::specs::Guards::or_next))]
 fn full_offence(code: &Code, anchor: Label, count: usize, own: Option<usize>) -> Option<Skipped>
     requires { length code.now.places ≤ 512 }
     ensures { result ≡ full_offence code.now anchor count own }
@@ -86,18 +55,4 @@ fn full_offence(code: &Code, anchor: Label, count: usize, own: Option<usize>) ->
             room_offence(fresh_row(code, anchor), labels + 1)
         }
     }
-}
-
-/// Whether an Assume has too many guards, its own and others.
-pub(crate) fn guards_offence(own: usize, count: usize) -> Option<Skipped>
-    ensures { result ≡ guards_offence (own + count) }
-{
-    let all = own.saturating_add(count);
-    if all <= MAX_GUARDS {
-        return None;
-    }
-    Some(Skipped::Full {
-        room: Room::Guards,
-        count: told(all),
-    })
 }

@@ -1,26 +1,10 @@
-//! The places that an immediate Assume makes.
+//! The instructions that an immediate Assume makes.
 
 ghost use Rattle.std.specs.Prelude.{◌≡◌, ◌<◌, ◌++◌, IfOk, length};
-ghost use Rattle.cj_assume.specs.ImmediateAssume.{with_instr, with_more, anchor_to, assume_of};
+ghost use Rattle.cj_assume.specs.ImmediateAssume.{with_more, anchor_to, assume_of};
 
-use cj_draft::{Place, VInstr};
+use cj_draft::VInstr;
 use cj_ir::{Duplicate, Guard, Guards, Label, NoMemory};
-
-/// A place like this one with another instruction.
-#[tactic(auto, unfolding(crate::specs::ImmediateAssume::with_instr))]
-pub(crate) fn with_instr(place: &Place, instr: VInstr) -> Result<Place, NoMemory>
-    ensures { IfOk result (λ made. made ≡ with_instr instr place.now) }
-{
-    let point = place.point.copy()?;
-    let facts = place.facts.copy()?;
-    let backs = place.backs.copy()?;
-    Ok(Place {
-        instr,
-        point,
-        facts,
-        backs,
-    })
-}
 
 /// The Assume with further guards, after its own.
 #[tactic(auto, unfolding(crate::specs::ImmediateAssume::with_more))]

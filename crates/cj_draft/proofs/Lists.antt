@@ -1,5 +1,5 @@
 -- Items of lists, as the proofs here use them.
-use Rattle.std.proofs.Common.{◌≡◌, ℕ, ◌<◌, List, length, Some}
+use Rattle.std.proofs.Common.{◌≡◌, ℕ, List, length, Some}
 use Rattle.std.specs.Prelude.{slice_get, slice_index_or, All}
 use Rattle.std.proofs.lemmas.Option.{slice_get-get_or}
 use Rattle.cj_ir.proofs.ListReads.{all_at}

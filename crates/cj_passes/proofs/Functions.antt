@@ -10,13 +10,14 @@ use Rattle.cj_draft.specs.declared.passes.Pass.TheVariants.{Anchors, Assume, Del
 use Rattle.cj_draft.specs.declared.passes.Skipped.{Skipped}
 use Rattle.cj_draft.specs.Arrives.{place_at}
 use Rattle.cj_anchor.specs.AnchorInsertion.{anchored, IsAnchored, AreAnchored, Finished, Placed, Passed}
-use Rattle.cj_assume.specs.ImmediateAssume.{assume_offence, guards_at, with_places, appended_in, appended, inserted_in, inserted, assumed_by, assumed_after, assumed, assumed_or_left}
+use Rattle.cj_assume.specs.ImmediateAssume.{assume_offence, guards_at, appended_in, appended, inserted_in, inserted, assumed_by, assumed_after, assumed, assumed_or_left}
+use Rattle.cj_rows.specs.Places.{with_places}
 use Rattle.cj_draft.specs.declared.instructions.VInstr.{VInstr}
 use Rattle.cj_draft.specs.declared.instructions.VInstr.TheVariants.{Nop, Op, Move, Cond, Call, Return, Print, Load, Store, Fail}
 use Rattle.cj_draft.specs.declared.instructions.VInstr.TheVariants as version
 use Rattle.cj_draft.specs.Skips.{unless}
 use Rattle.cj_rows.specs.Rows.{anchor_at}
-use Rattle.cj_assume.specs.DelayedAssume.{delayed, IsAfterDelay}
+use Rattle.cj_delay.specs.DelayedAssume.{delayed, IsAfterDelay}
 use Rattle.cj_const.specs.Folding.{folded, IsFolded}
 use Rattle.cj_inline.specs.Inlining as inlining
 use Rattle.cj_passes.specs.Pipeline.{callee_at, IsPassed}

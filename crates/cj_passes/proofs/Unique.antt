@@ -12,7 +12,7 @@ use Rattle.cj_anchor.specs.AnchorInsertion.{AreAnchored}
 use Rattle.cj_anchor.specs.Lowering.{IsLowered}
 use Rattle.cj_ir.specs.declared.language.Guard.{Guard}
 use Rattle.cj_draft.specs.declared.facts.Fact.{Fact}
-use Rattle.cj_assume.specs.DelayedAssume.{IsAfterDelay}
+use Rattle.cj_delay.specs.DelayedAssume.{IsAfterDelay}
 use Rattle.cj_const.specs.Folding.{IsFolded}
 use Rattle.cj_passes.specs.Pipeline.{reasons, IsPassed, numbered, ArePassed, Finished, Passed, IsPipeline}
 

@@ -9,8 +9,8 @@ ghost use Rattle.cj_draft.specs.declared.passes.Skipped.{Skipped};
 ghost use Rattle.cj_passes.specs.Pipeline.{IsPipeline};
 
 use cj_anchor::laws::{insertion_is_unique, lowering_is_unique};
-use cj_assume::laws::delayed_is_unique;
 use cj_const::laws::folding_is_unique;
+use cj_delay::laws::delayed_is_unique;
 
 /// A list of passes makes one version of a function, and skips the same each time.
 pub fn pipeline_is_unique()

@@ -6,8 +6,9 @@ ghost use Rattle.cj_passes.specs.Pipeline.{or_own, callee_at, IsPassStep, IsPipe
 
 use crate::skips::{push_all, push_one};
 use cj_anchor::{insert_anchors, lower};
-use cj_assume::{delayed, immediate};
+use cj_assume::immediate;
 use cj_const::fold;
+use cj_delay::delayed;
 use cj_draft::{Draft, Pass, Passes, Skips, Version};
 use cj_inline::{called_at, inline};
 use cj_ir::{Checked, FunId, Label, NoMemory};

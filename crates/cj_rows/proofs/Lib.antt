@@ -4,3 +4,4 @@ pub mod RowLemmas
 pub mod InsertedRows
 pub mod Room
 pub mod WithPairs
+pub mod GuardConditions

@@ -1,7 +1,8 @@
 //! Texts, their canonical texts, and what these are read as.
 
 use crate::{
-    Kind, ParseError, Refused, canonical_text, parse, print, print_input, read_back, read_program_back,
+    Kind, ParseError, Refused, canonical_text, parse, print, print_input, read_back,
+    read_program_back,
 };
 use std::alloc::Global;
 use std::process::Abort;

@@ -1,6 +1,0 @@
-use Rattle.std.proofs.Common.{◌≡◌, drop}
-use Rattle.cj_assume.specs.ImmediateAssume.{register_offence}
-use Rattle.cj_assume.proofs.offences.register_offence.Given as goal
-
-abbrev pub invariant-loop-guard : goal.invariant-loop-guard
-invariant-loop-guard l = register_offence l.regs (drop l.guard-index l.guards) ≡ register_offence l.regs l.guards

@@ -1,6 +1,0 @@
-use Rattle.std.proofs.Common.{◌≡◌, drop}
-use Rattle.cj_assume.specs.DelayedAssume.{missing_offence}
-use Rattle.cj_assume.proofs.paths.missing_offence.Given as goal
-
-abbrev pub invariant-loop-label : goal.invariant-loop-label
-invariant-loop-label l = missing_offence l.code (drop l.label-index l.labels) ≡ missing_offence l.code l.labels

@@ -1,0 +1,9 @@
+pub mod Counted
+pub mod PathSteps
+pub mod DelayConditions
+pub mod OneEdge
+pub mod DelayedSound
+pub mod Marking
+pub mod Delaying
+pub mod DelayedUnique
+pub mod MissingLabels

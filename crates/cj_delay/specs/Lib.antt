@@ -1,0 +1,3 @@
+pub mod DelayedAssume
+pub mod CountedEdges
+pub mod DelaySteps

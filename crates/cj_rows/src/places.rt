@@ -1,0 +1,23 @@
+//! Places that are like others but for one part.
+
+ghost use Rattle.std.specs.Prelude.{◌≡◌, IfOk};
+ghost use Rattle.cj_rows.specs.Places.{with_instr};
+
+use cj_draft::{Place, VInstr};
+use cj_ir::{Duplicate, NoMemory};
+
+/// A place like this one with another instruction.
+#[tactic(auto, unfolding(crate::specs::Places::with_instr))]
+pub fn with_instr(place: &Place, instr: VInstr) -> Result<Place, NoMemory>
+    ensures { IfOk result (λ made. made ≡ with_instr instr place.now) }
+{
+    let point = place.point.copy()?;
+    let facts = place.facts.copy()?;
+    let backs = place.backs.copy()?;
+    Ok(Place {
+        instr,
+        point,
+        facts,
+        backs,
+    })
+}
