@@ -1,3 +1,5 @@
 pub mod Rows
 pub mod Rooms
 pub mod Pairs
+pub mod Edges
+pub mod Tables

@@ -1,10 +1,14 @@
-//! Rows of Assumes and Anchors, and the room for one more.
+//! Rows of Assumes and Anchors, the room for one more, and edges that are led elsewhere.
 #![tactic(auto)]
 
+pub mod edges;
 pub mod pairs;
+pub mod places;
 pub mod rooms;
 pub mod rows;
 
+pub use edges::{given, led_place};
 pub use pairs::{has_pair, with_pair};
+pub use places::reversed;
 pub use rooms::room_offence;
 pub use rows::{MAX_ROW, anchor_at, anchor_next, fresh_row, guard_at, guards_after, guards_before};
