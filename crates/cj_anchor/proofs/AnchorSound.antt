@@ -26,13 +26,11 @@ use Rattle.cj_draft.proofs.Insert.{IsKept, IsInserted, NewOn, inserted_sound}
 use Rattle.cj_draft.proofs.Rows.{guard_next-relabel, rows_inserted}
 use Rattle.cj_draft.specs.Edges.{fresh_label, led_to}
 use Rattle.cj_draft.proofs.EdgeLemmas.{led-same, led-other, relabel_fine, guard_successor}
-use Rattle.cj_anchor.specs.Lowering.{led_place}
-use Rattle.cj_anchor.specs.Search.{IsClosed}
+use Rattle.cj_rows.specs.Edges.{led_place, IsClosed}
 use Rattle.cj_rows.specs.Rows.{guard_in, guard_at, fresh_row}
 use Rattle.cj_anchor.specs.AnchorInsertion.{offence_at, anchor_offence, anchor_place, anchored}
 use Rattle.cj_rows.proofs.ListReads.{get-append_left, get-append_end, contains-at}
-use Rattle.cj_anchor.proofs.Closed.{named_closed}
-use Rattle.cj_anchor.proofs.Passing.{next_within}
+use Rattle.cj_rows.proofs.Closed.{named_closed, next_within}
 use Rattle.cj_rows.proofs.RowLemmas.{has_guard, guard_place}
 use Rattle.cj_rows.proofs.InsertedRows.{HasGuardsOf, rows_through}
 use Rattle.cj_rows.proofs.Room as room

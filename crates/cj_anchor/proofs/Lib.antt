@@ -1,10 +1,3 @@
-pub mod Passing
-pub mod Searching
-pub mod Tables
-pub mod Keeping
-pub mod Closed
-pub mod LoweringSound
-pub mod Unique
 pub mod AnchorSound
 pub mod AnchorSteps
 pub mod UniqueAnchors

@@ -11,7 +11,7 @@ use Rattle.cj_draft.specs.Arrives.{place_at}
 use Rattle.cj_draft.specs.Sound.{pair_of}
 use Rattle.cj_draft.specs.Edges.{fresh_label, led_to}
 use Rattle.cj_draft.specs.Skips.{told}
-use Rattle.cj_anchor.specs.Lowering.{led_place}
+use Rattle.cj_rows.specs.Edges.{led_place}
 use Rattle.cj_rows.specs.Rows.{fresh_row}
 use Rattle.cj_rows.specs.Rooms.{room_offence}
 use Rattle.cj_rows.specs.Pairs.{AreWith}

@@ -1,3 +1,1 @@
-pub mod Lowering
-pub mod Search
 pub mod AnchorInsertion

@@ -2,15 +2,13 @@
 
 ghost use Rattle.std.specs.Prelude.{◌≡◌, ◌<◌, ◌≤◌, IfOk, length, map};
 ghost use Rattle.cj_draft.specs.Edges.{led_to};
-ghost use Rattle.cj_anchor.specs.Lowering.{led_place};
-ghost use Rattle.cj_anchor.specs.Search.{IsClosed, IsTable, given};
+ghost use Rattle.cj_rows.specs.Edges.{led_place, IsClosed};
+ghost use Rattle.cj_rows.specs.Tables.{IsTable, given};
 ghost use Rattle.cj_anchor.specs.AnchorInsertion.{anchor_offence, IsAnchored, IsAnchorStep, IsAnchorPlace, AreAnchored};
 
-use crate::edges::{given, led_place};
-use crate::lowering::reversed;
 use cj_draft::{Code, Draft, Place, Places, Skipped, Skips, VInstr, led_to, told};
 use cj_ir::{Duplicate, Label, Labels, NoMemory};
-use cj_rows::{fresh_row, room_offence, with_pair};
+use cj_rows::{fresh_row, given, led_place, reversed, room_offence, with_pair};
 use std::alloc::Global;
 
 /// An Anchor before each of these labels, in their order, with the label's point as its target. An offence skips that

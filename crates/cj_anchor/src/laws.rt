@@ -1,16 +1,10 @@
-//! Laws of the passes. Their proofs are all that these functions have.
+//! The law of Anchors before labels. Its proof is all that this function has.
 
 ghost use Rattle.std.specs.Prelude.{◌≡◌, ℕ, List};
 ghost use Rattle.cj_ir.specs.declared.language.Label.{Label};
 ghost use Rattle.cj_draft.specs.declared.code.Code.{Code};
 ghost use Rattle.cj_draft.specs.declared.passes.Skipped.{Skipped};
-ghost use Rattle.cj_anchor.specs.Lowering.{IsLowered};
 ghost use Rattle.cj_anchor.specs.AnchorInsertion.{AreAnchored};
-
-/// A code has one lowering.
-pub fn lowering_is_unique()
-    ensures { (code one other : Code) → IsLowered code one → IsLowered code other → one ≡ other }
-{}
 
 /// Anchors before the labels of a list make one code, with one list of skips.
 pub fn insertion_is_unique()

@@ -1,3 +1,9 @@
+pub mod Passing
+pub mod Searching
+pub mod Numbers
+pub mod Keeping
+pub mod LoweringSound
+pub mod UniqueLowering
 pub mod Functions
 pub mod Steps
 pub mod Unique

@@ -9,7 +9,7 @@ use Rattle.cj_draft.specs.declared.passes.Pass.TheVariants.{Anchors, Assume, Del
 use Rattle.cj_draft.specs.declared.passes.Skipped.{Skipped}
 use Rattle.cj_ir.specs.declared.language.Label.{Label}
 use Rattle.cj_anchor.specs.AnchorInsertion.{AreAnchored}
-use Rattle.cj_anchor.specs.Lowering.{IsLowered}
+use Rattle.cj_passes.specs.Lowering.{IsLowered}
 use Rattle.cj_ir.specs.declared.language.Guard.{Guard}
 use Rattle.cj_draft.specs.declared.facts.Fact.{Fact}
 use Rattle.cj_delay.specs.DelayedAssume.{IsAfterDelay}

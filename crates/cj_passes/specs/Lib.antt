@@ -1,1 +1,3 @@
+pub mod Lowering
+pub mod Search
 pub mod Pipeline

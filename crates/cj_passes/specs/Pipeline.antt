@@ -10,7 +10,7 @@ use Rattle.cj_draft.specs.declared.passes.Pass.TheVariants.{Anchors, Assume, Del
 use Rattle.cj_draft.specs.declared.passes.Skipped.{Skipped}
 use Rattle.cj_draft.specs.Skips.{told}
 use Rattle.cj_anchor.specs.AnchorInsertion.{AreAnchored}
-use Rattle.cj_anchor.specs.Lowering.{IsLowered}
+use Rattle.cj_passes.specs.Lowering.{IsLowered}
 use Rattle.cj_assume.specs.ImmediateAssume.{assume_offence, IsAfter}
 use Rattle.cj_delay.specs.DelayedAssume.{delay_offence, IsAfterDelay}
 use Rattle.cj_const.specs.Folding.{IsFolded}

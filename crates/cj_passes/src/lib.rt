@@ -1,11 +1,16 @@
-//! The pipeline: passes over a base body, and the lowering of what they make.
+//! The pipeline: passes over a base body, and the lowering of what they make to a version.
 #![tactic(auto)]
 
 pub mod laws;
+pub mod lowering;
 pub mod pipelines;
+pub mod reach;
 pub mod skips;
 
+pub use lowering::lower;
 pub use pipelines::pipeline;
 
+#[cfg(test)]
+mod lowering_tests;
 #[cfg(test)]
 mod tests;

@@ -4,8 +4,9 @@ ghost use Rattle.std.specs.Prelude.{◌≡◌, ◌<◌, [], IfOk, length};
 ghost use Rattle.cj_inline.specs.Inlining.{called_at};
 ghost use Rattle.cj_passes.specs.Pipeline.{or_own, callee_at, IsPassStep, IsPipeline};
 
+use crate::lowering::lower;
 use crate::skips::{push_all, push_one};
-use cj_anchor::{insert_anchors, lower};
+use cj_anchor::insert_anchors;
 use cj_assume::immediate;
 use cj_const::fold;
 use cj_delay::delayed;

@@ -1,4 +1,8 @@
 pub mod ListReads
+pub mod Reversing
+pub mod Closed
+pub mod Tables
+pub mod LedAlike
 pub mod GuardRows
 pub mod RowLemmas
 pub mod InsertedRows

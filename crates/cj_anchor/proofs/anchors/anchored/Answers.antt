@@ -4,12 +4,12 @@ use Rattle.cj_draft.specs.declared.code.Place.{Place}
 use Rattle.cj_draft.specs.declared.code.Code.{Code}
 use Rattle.cj_draft.specs.Arrives.{place_at}
 use Rattle.cj_draft.specs.Edges.{fresh_label, led_to}
-use Rattle.cj_anchor.specs.Lowering.{led_place}
-use Rattle.cj_anchor.specs.Search.{IsTable, given}
+use Rattle.cj_rows.specs.Edges.{led_place}
+use Rattle.cj_rows.specs.Tables.{IsTable, given}
 use Rattle.cj_anchor.specs.AnchorInsertion.{anchored}
 use Rattle.cj_rows.proofs.ListReads.{get-read}
-use Rattle.cj_anchor.proofs.Keeping.{all_led_alike}
-use Rattle.cj_anchor.proofs.Tables.{numbered, given_in}
+use Rattle.cj_rows.proofs.LedAlike.{led_alike}
+use Rattle.cj_rows.proofs.Tables.{numbered, given_in}
 use Rattle.cj_anchor.proofs.anchors.anchored.Goals as goal
 
 with_places : Code → Label → List Place → Code
@@ -29,7 +29,7 @@ returns c =
     let is_table : IsTable r n table = subst (λ (ps : List Place). IsTable (led_to label (numbered (length ps))) (length ps) table) c.items-labels.ensures c.in_ok-table.ensures in
     let entry = c.given-entry.ensures ∙ ap (λ (t : List Label). given t code.entry) c.items-2.ensures ∙ given_in r n table code.entry is_table c.requires.closed.entry in
     let old = c.in_ok-places.ensures ∙ ap (λ (t : List Label). map (led_place (given t)) code.places) c.items-3.ensures
-    ∙ all_led_alike (given table) r n (λ x h. given_in r n table x is_table h) code.places c.requires.closed.edges in
+    ∙ led_alike (given table) r n (λ x h. given_in r n table x is_table h) code.places c.requires.closed.edges in
     let places = c.in_ok-push.ensures.ok ∙ ap₂ (λ (ps : List Place) (p : Place). ps ++ p ∷ []) old c.in_ok-place.ensures.same in
     record {
       place = place;

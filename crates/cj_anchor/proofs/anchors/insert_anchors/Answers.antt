@@ -7,7 +7,7 @@ use Rattle.cj_draft.specs.declared.passes.Skipped.{Skipped}
 use Rattle.cj_draft.specs.Bodies.{Body}
 use Rattle.cj_draft.specs.Sound.{Sound}
 use Rattle.cj_anchor.specs.AnchorInsertion.{AreAnchored, Finished}
-use Rattle.cj_anchor.proofs.Closed.{named_closed}
+use Rattle.cj_rows.proofs.Closed.{named_closed}
 use Rattle.cj_anchor.proofs.AnchorSteps.{step_sound, step_function, step_rest}
 use Rattle.cj_anchor.proofs.anchors.insert_anchors.Goals as goal
 

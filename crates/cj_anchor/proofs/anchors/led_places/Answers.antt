@@ -1,8 +1,8 @@
 use Rattle.std.proofs.Common.{◌∙◌, List, [], ◌∷◌, ◌++◌, map, reverse, sym, ap, append_assoc}
 use Rattle.cj_draft.specs.declared.code.Place.{Place}
-use Rattle.cj_anchor.specs.Lowering.{led_place}
-use Rattle.cj_anchor.specs.Search.{given}
-use Rattle.cj_anchor.proofs.Keeping.{popped}
+use Rattle.cj_rows.specs.Edges.{led_place}
+use Rattle.cj_rows.specs.Tables.{given}
+use Rattle.cj_rows.proofs.Reversing.{popped}
 use Rattle.cj_anchor.proofs.anchors.led_places.Goals as goal
 
 pub loop-place-preserved : goal.loop-place-preserved

@@ -1,6 +1,6 @@
 use Rattle.std.proofs.Common.{◌≡◌, ◌++◌, length, map, reverse}
-use Rattle.cj_anchor.specs.Lowering.{led_place}
-use Rattle.cj_anchor.specs.Search.{given}
+use Rattle.cj_rows.specs.Edges.{led_place}
+use Rattle.cj_rows.specs.Tables.{given}
 use Rattle.cj_anchor.proofs.anchors.led_places.Given as goal
 
 abbrev pub invariant-loop-place : goal.invariant-loop-place

@@ -1,5 +1,5 @@
 use Rattle.cj_draft.specs.Edges.{led_to}
-use Rattle.cj_anchor.specs.Search.{IsTable}
+use Rattle.cj_rows.specs.Tables.{IsTable}
 use Rattle.cj_anchor.proofs.anchors.table_to.Given as goal
 
 abbrev pub invariant-loop-from : goal.invariant-loop-from

@@ -7,7 +7,7 @@ use Rattle.cj_draft.specs.Bodies.{Body}
 use Rattle.cj_draft.specs.declared.code.Code.{Code}
 use Rattle.cj_draft.specs.declared.passes.Pass.{Pass}
 use Rattle.cj_draft.specs.declared.passes.Skipped.{Skipped}
-use Rattle.cj_anchor.specs.Lowering.{lowered}
+use Rattle.cj_passes.specs.Lowering.{lowered}
 use Rattle.cj_passes.specs.Pipeline.{ArePassed, Finished, IsPassStep}
 use Rattle.cj_passes.proofs.Functions.{pass_keeps}
 use Rattle.cj_passes.proofs.Steps.{one_pass_more}

@@ -1,6 +1,0 @@
-use Rattle.cj_anchor.specs.Lowering.{led}
-use Rattle.cj_anchor.specs.Search.{IsTable}
-use Rattle.cj_anchor.proofs.lowering.led_labels.Given as goal
-
-abbrev pub invariant-loop-label : goal.invariant-loop-label
-invariant-loop-label l = IsTable (led l.code l.kept) l.label l.labels

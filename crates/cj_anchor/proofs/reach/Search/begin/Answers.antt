@@ -1,5 +1,0 @@
-use Rattle.cj_anchor.specs.Lowering.{Entry}
-use Rattle.cj_anchor.proofs.reach.Search.begin.Goals as goal
-
-pub visit-requires-clause-reached : goal.visit-requires-clause-reached
-visit-requires-clause-reached c = Entry
