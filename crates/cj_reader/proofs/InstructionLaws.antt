@@ -12,11 +12,12 @@ use Rattle.cj_grammar.specs.Rules.{operand, expr, target, operands, more_operand
 use Rattle.cj_grammar.specs.Reading.{offends_if, each_offends, each_at, reads}
 use Rattle.cj_grammar.proofs.ReadsLaws.{reads_then, reads_last, each_reads}
 use Rattle.cj_reader.specs.declared.scope.Callee.{Callee}
+use Rattle.cj_reader.specs.declared.calls.Called.{Called}
 use Rattle.cj_reader.specs.Scopes.{Scope}
 use Rattle.cj_reader.specs.Operands.{is_long, register_offences, register_of, label_offences, label_of, target_offences, target_of, operand_offences, operand_of, expr_offences, expr_of}
 use Rattle.cj_reader.specs.Instructions.{arguments_offences, arguments_of, argument_count, count_offences, callee_offences, callee_of, nop_offences, nop_of, op_offences, op_of, cond_offences, cond_of, call_offences, call_of, return_offences, return_of, print_offences, print_of, load_offences, load_of, store_offences, store_of, fail_offences, fail_of, instr_offences, instr_of}
 use Rattle.cj_reader.specs.Prescans.{count_at}
-use Rattle.cj_reader.specs.Reading.{refuse_if, target_at, next_operand_at, arguments_at, called_with, callee_at, nop_at, op_at, cond_at, call_at, return_at, print_at, load_at, store_at, text_at, fail_at, instr_at}
+use Rattle.cj_reader.specs.Reading.{refuse_if, target_at, dest_at, address_at, next_operand_at, arguments_at, called_with, callee_at, called_at, nop_at, op_at, cond_at, call_at, return_at, print_at, load_at, store_at, text_at, fail_at, instr_at}
 use Rattle.cj_reader.proofs.Decided.{decides, decided_then, decided_last, refused_decides}
 use Rattle.cj_reader.proofs.OperandLaws.{leaf_number, register_decides, label_decides, target_reads, operand_reads, expr_reads}
 
@@ -82,19 +83,43 @@ unfolding callee_at
 callee_decides s t count =
     refused_decides (is_long t) t TooMany (count_offences t count (s.function_at t.text)) (callee_of s t) _ (called_decides t count (s.function_at t.text))
 
+called_reads : (s : Scope) (callee : Leaf (Is terminal.Name)) (left : Leaf (Is terminal.OpenParen)) (arguments : Tree (opt operands)) (right : Leaf (Is terminal.CloseParen)) (us : List Lexeme) → called_at s (callee.token ∷ left.token ∷ (leaves (opt operands) arguments ++ right.token ∷ us)) ≡ reads (callee_offences s callee.token (argument_count arguments) ++ arguments_offences s arguments) (record { function = callee_of s callee.token; args = arguments_of s arguments }) us
+unfolding called_at front behind
+called_reads s callee left arguments right us =
+    let n : ℕ = argument_count arguments in
+    let vs : List Lexeme = right.token ∷ us in
+    let called : Called = record { function = callee_of s callee.token; args = arguments_of s arguments } in
+    rw (count_arguments arguments right us, callee_decides s callee.token n)
+    (decided_then (callee_offences s callee.token n) (arguments_offences s arguments) (callee_of s callee.token) called us _
+    (rw (arguments_reads s arguments vs) (reads_last (arguments_offences s arguments) (arguments_of s arguments) called vs us _ refl)))
+
 -- ---- instructions
+
+-- a register and the `=` behind it
+dest_reads : (s : Scope) (dest : Leaf (Is terminal.Name)) (equals : Leaf (Is terminal.Equals)) (us : List Lexeme) → dest_at s (dest.token ∷ equals.token ∷ us) ≡ reads (register_offences s dest.token) (register_of s dest.token) us
+unfolding dest_at front behind
+dest_reads s dest equals us =
+    rw (register_decides s dest.token) (decided_last (register_offences s dest.token) (register_of s dest.token) _ us _ refl)
+
+-- an operand in brackets
+address_reads : (s : Scope) (left : Leaf (Is terminal.OpenBracket)) (address : Tree operand) (right : Leaf (Is terminal.CloseBracket)) (us : List Lexeme) → address_at s (left.token ∷ (leaves operand address ++ right.token ∷ us)) ≡ reads (operand_offences s address) (operand_of s address) us
+unfolding address_at behind
+address_reads s left address right us =
+    let vs : List Lexeme = right.token ∷ us in
+    rw (operand_reads s address vs) (reads_last (operand_offences s address) (operand_of s address) _ vs us _ refl)
 
 nop_reads : (s : Scope) (t : Tree nop_instr) (ts : List Lexeme) → nop_at s (behind (leaves nop_instr t ++ ts)) ≡ reads (nop_offences s t) (nop_of s t) ts
 unfolding nop_instr nop_at nop_offences nop_of behind
 nop_reads s (word, next) ts = rw (target_reads s next ts) (reads_last (target_offences s next) (target_of s next) _ ts ts _ refl)
 
 op_reads : (s : Scope) (t : Tree op_instr) (ts : List Lexeme) → op_at s (behind (leaves op_instr t ++ ts)) ≡ reads (op_offences s t) (op_of s t) ts
-unfolding op_instr op_at op_offences op_of front behind
+unfolding op_instr op_at op_offences op_of behind
 op_reads s (word, (dest, (equals, (value, next)))) ts =
     let us : List Lexeme = leaves target next ++ ts in
-    let regroup : (leaves expr value ++ leaves target next) ++ ts ≡ leaves expr value ++ us = append_assoc (leaves expr value) (leaves target next) ts in
-    rw (regroup, register_decides s dest.token)
-    (decided_then (register_offences s dest.token) (expr_offences s value ++ target_offences s next) (register_of s dest.token) _ ts _
+    let vs : List Lexeme = leaves expr value ++ us in
+    let regroup : (leaves expr value ++ leaves target next) ++ ts ≡ vs = append_assoc (leaves expr value) (leaves target next) ts in
+    rw (regroup, dest_reads s dest equals vs)
+    (reads_then (register_offences s dest.token) (expr_offences s value ++ target_offences s next) (register_of s dest.token) _ vs ts _
     (rw (expr_reads s value next ts) (reads_then (expr_offences s value) (target_offences s next) (expr_of s value) _ us ts _
     (rw (target_reads s next ts) (reads_last (target_offences s next) (target_of s next) _ ts ts _ refl)))))
 
@@ -117,17 +142,19 @@ cond_reads s (word, (test, (then_to, (comma, else_to)))) ts =
     (rw (second_reads s comma else_to ts) (reads_last (label_offences s else_to.token) (label_of s else_to.token) _ ts ts _ refl)))))
 
 call_reads : (s : Scope) (t : Tree call_instr) (ts : List Lexeme) → call_at s (behind (leaves call_instr t ++ ts)) ≡ reads (call_offences s t) (call_of s t) ts
-unfolding call_instr call_at call_offences call_of front behind
+unfolding call_instr call_at call_offences call_of behind
 call_reads s (word, (dest, (equals, (callee, (left, (arguments, (right, next))))))) ts =
     let us : List Lexeme = leaves target next ++ ts in
     let vs : List Lexeme = right.token ∷ us in
-    let n : ℕ = argument_count arguments in
+    let ws : List Lexeme = callee.token ∷ left.token ∷ (leaves (opt operands) arguments ++ vs) in
+    let cs : List Refused = callee_offences s callee.token (argument_count arguments) in
     let regroup : (leaves (opt operands) arguments ++ (right.token ∷ leaves target next)) ++ ts ≡ leaves (opt operands) arguments ++ vs = append_assoc (leaves (opt operands) arguments) (right.token ∷ leaves target next) ts in
-    rw (regroup, count_arguments arguments right us, register_decides s dest.token)
-    (decided_then (register_offences s dest.token) (callee_offences s callee.token n ++ (arguments_offences s arguments ++ target_offences s next)) (register_of s dest.token) _ ts _
-    (rw (callee_decides s callee.token n) (decided_then (callee_offences s callee.token n) (arguments_offences s arguments ++ target_offences s next) (callee_of s callee.token) _ ts _
-    (rw (arguments_reads s arguments vs) (reads_then (arguments_offences s arguments) (target_offences s next) (arguments_of s arguments) _ vs ts _
-    (rw (target_reads s next ts) (reads_last (target_offences s next) (target_of s next) _ ts ts _ refl)))))))
+    let parts : (cs ++ arguments_offences s arguments) ++ target_offences s next ≡ cs ++ (arguments_offences s arguments ++ target_offences s next) = append_assoc cs (arguments_offences s arguments) (target_offences s next) in
+    let called : Called = record { function = callee_of s callee.token; args = arguments_of s arguments } in
+    rw (regroup, dest_reads s dest equals ws)
+    (reads_then (register_offences s dest.token) (cs ++ (arguments_offences s arguments ++ target_offences s next)) (register_of s dest.token) _ ws ts _
+    (rw (called_reads s callee left arguments right us, ← parts) (reads_then (cs ++ arguments_offences s arguments) (target_offences s next) called _ us ts _
+    (rw (target_reads s next ts) (reads_last (target_offences s next) (target_of s next) _ ts ts _ refl)))))
 
 return_reads : (s : Scope) (t : Tree return_instr) (ts : List Lexeme) → return_at s (behind (leaves return_instr t ++ ts)) ≡ reads (return_offences s t) (return_of s t) ts
 unfolding return_instr return_at return_offences return_of behind
@@ -142,14 +169,15 @@ print_reads s (word, (value, next)) ts =
     (rw (target_reads s next ts) (reads_last (target_offences s next) (target_of s next) _ ts ts _ refl)))
 
 load_reads : (s : Scope) (t : Tree load_instr) (ts : List Lexeme) → load_at s (behind (leaves load_instr t ++ ts)) ≡ reads (load_offences s t) (load_of s t) ts
-unfolding load_instr load_at load_offences load_of front behind
+unfolding load_instr load_at load_offences load_of behind
 load_reads s (word, (dest, (equals, (left, (address, (right, next)))))) ts =
     let us : List Lexeme = leaves target next ++ ts in
     let vs : List Lexeme = right.token ∷ us in
+    let ws : List Lexeme = left.token ∷ (leaves operand address ++ vs) in
     let regroup : (leaves operand address ++ (right.token ∷ leaves target next)) ++ ts ≡ leaves operand address ++ vs = append_assoc (leaves operand address) (right.token ∷ leaves target next) ts in
-    rw (regroup, register_decides s dest.token)
-    (decided_then (register_offences s dest.token) (operand_offences s address ++ target_offences s next) (register_of s dest.token) _ ts _
-    (rw (operand_reads s address vs) (reads_then (operand_offences s address) (target_offences s next) (operand_of s address) _ vs ts _
+    rw (regroup, dest_reads s dest equals ws)
+    (reads_then (register_offences s dest.token) (operand_offences s address ++ target_offences s next) (register_of s dest.token) _ ws ts _
+    (rw (address_reads s left address right us) (reads_then (operand_offences s address) (target_offences s next) (operand_of s address) _ us ts _
     (rw (target_reads s next ts) (reads_last (target_offences s next) (target_of s next) _ ts ts _ refl)))))
 
 store_reads : (s : Scope) (t : Tree store_instr) (ts : List Lexeme) → store_at s (behind (leaves store_instr t ++ ts)) ≡ reads (store_offences s t) (store_of s t) ts
@@ -157,11 +185,11 @@ unfolding store_instr store_at store_offences store_of behind
 store_reads s (word, (left, (address, (right, (equals, (value, next)))))) ts =
     let us : List Lexeme = leaves target next ++ ts in
     let ws : List Lexeme = leaves operand value ++ us in
-    let vs : List Lexeme = right.token ∷ equals.token ∷ ws in
+    let vs : List Lexeme = equals.token ∷ ws in
     let inner : (leaves operand value ++ leaves target next) ++ ts ≡ ws = append_assoc (leaves operand value) (leaves target next) ts in
-    let regroup : (leaves operand address ++ (right.token ∷ equals.token ∷ (leaves operand value ++ leaves target next))) ++ ts ≡ leaves operand address ++ vs =
+    let regroup : (leaves operand address ++ (right.token ∷ equals.token ∷ (leaves operand value ++ leaves target next))) ++ ts ≡ leaves operand address ++ (right.token ∷ vs) =
     append_assoc (leaves operand address) (right.token ∷ equals.token ∷ (leaves operand value ++ leaves target next)) ts ∙ ap (λ z. leaves operand address ++ (right.token ∷ equals.token ∷ z)) inner in
-    rw (regroup, operand_reads s address vs)
+    rw (regroup, address_reads s left address right vs)
     (reads_then (operand_offences s address) (operand_offences s value ++ target_offences s next) (operand_of s address) _ vs ts _
     (rw (operand_reads s value us) (reads_then (operand_offences s value) (target_offences s next) (operand_of s value) _ us ts _
     (rw (target_reads s next ts) (reads_last (target_offences s next) (target_of s next) _ ts ts _ refl)))))

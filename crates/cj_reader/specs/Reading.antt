@@ -23,6 +23,7 @@ use Rattle.cj_tokens.specs.declared.refusal.Refused.{Refused}
 use Rattle.cj_grammar.specs.Grammar.{◌>>=◌}
 use Rattle.cj_grammar.specs.Reading.{offence, Read, found, each_at}
 use Rattle.cj_reader.specs.declared.scope.Callee.{Callee}
+use Rattle.cj_reader.specs.declared.calls.Called.{Called}
 use Rattle.cj_reader.specs.declared.declarations.Declared.{Declared}
 use Rattle.cj_reader.specs.declared.operators.Operator.{Operator}
 use Rattle.cj_reader.specs.declared.operators.Operator.TheVariants as operator
@@ -65,6 +66,14 @@ operand_at s ts =
     cond (is_terminal terminal.Name (front ts))
     (register_at s (front ts) >>= λ reg. Ok (operands.Reg reg, behind ts))
     (Ok (operands.Const (front ts).number, behind ts))
+
+-- a register and the `=` behind it
+unfoldable pub dest_at : Scope → List Lexeme → Read Reg
+dest_at s ts = register_at s (front ts) >>= λ dest. Ok (dest, behind (behind ts))
+
+-- an operand in brackets
+unfoldable pub address_at : Scope → List Lexeme → Read Operand
+address_at s ts = operand_at s (behind ts) >>= λ address. Ok (address.0, behind address.1)
 
 unfoldable pub operator_of : Terminal → Option Operator
 operator_of terminal.Plus = Some operator.Add
@@ -114,6 +123,12 @@ called_with t count (Some callee) = cond (callee.params == count) (Ok callee.fun
 unfoldable pub callee_at : Scope → Lexeme → ℕ → Result FunId Refused
 callee_at s t count = refuse_if (is_long t) t TooMany >>= λ u. called_with t count (s.function_at t.text)
 
+-- a NAME and its arguments in parentheses
+unfoldable pub called_at : Scope → List Lexeme → Read Called
+called_at s ts =
+    let inside : List Lexeme = behind (behind ts) in
+    callee_at s (front ts) (count_at inside) >>= λ function. arguments_at s (count_at inside) inside >>= λ args. Ok (record { function = function; args = args.0 }, behind args.1)
+
 -- ---- instructions, behind their first words
 
 unfoldable pub nop_at : Scope → List Lexeme → Read Instr
@@ -121,7 +136,7 @@ nop_at s ts = target_at s ts >>= λ next. Ok (instrs.Nop next.0, next.1)
 
 unfoldable pub op_at : Scope → List Lexeme → Read Instr
 op_at s ts =
-    register_at s (front ts) >>= λ dest. expr_at s (behind (behind ts)) >>= λ value. target_at s value.1 >>= λ next. Ok (instrs.Op dest value.0 next.0, next.1)
+    dest_at s ts >>= λ dest. expr_at s dest.1 >>= λ value. target_at s value.1 >>= λ next. Ok (instrs.Op dest.0 value.0 next.0, next.1)
 
 unfoldable pub cond_at : Scope → List Lexeme → Read Instr
 cond_at s ts =
@@ -129,9 +144,7 @@ cond_at s ts =
 
 unfoldable pub call_at : Scope → List Lexeme → Read Instr
 call_at s ts =
-    let called : List Lexeme = behind (behind ts) in
-    let inside : List Lexeme = behind (behind called) in
-    register_at s (front ts) >>= λ dest. callee_at s (front called) (count_at inside) >>= λ callee. arguments_at s (count_at inside) inside >>= λ arguments. target_at s (behind arguments.1) >>= λ next. Ok (instrs.Call dest callee arguments.0 next.0, next.1)
+    dest_at s ts >>= λ dest. called_at s dest.1 >>= λ called. target_at s called.1 >>= λ next. Ok (instrs.Call dest.0 called.0.function called.0.args next.0, next.1)
 
 unfoldable pub return_at : Scope → List Lexeme → Read Instr
 return_at s ts = operand_at s ts >>= λ value. Ok (instrs.Return value.0, value.1)
@@ -142,11 +155,11 @@ print_at s ts =
 
 unfoldable pub load_at : Scope → List Lexeme → Read Instr
 load_at s ts =
-    register_at s (front ts) >>= λ dest. operand_at s (behind (behind (behind ts))) >>= λ address. target_at s (behind address.1) >>= λ next. Ok (instrs.Load dest address.0 next.0, next.1)
+    dest_at s ts >>= λ dest. address_at s dest.1 >>= λ address. target_at s address.1 >>= λ next. Ok (instrs.Load dest.0 address.0 next.0, next.1)
 
 unfoldable pub store_at : Scope → List Lexeme → Read Instr
 store_at s ts =
-    operand_at s (behind ts) >>= λ address. operand_at s (behind (behind address.1)) >>= λ value. target_at s value.1 >>= λ next. Ok (instrs.Store address.0 value.0 next.0, next.1)
+    address_at s ts >>= λ address. operand_at s (behind address.1) >>= λ value. target_at s value.1 >>= λ next. Ok (instrs.Store address.0 value.0 next.0, next.1)
 
 unfoldable pub fail_at : List Lexeme → Read Instr
 fail_at ts =

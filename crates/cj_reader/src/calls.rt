@@ -5,8 +5,9 @@ ghost use Rattle.cj_tokens.specs.Seen.{seen};
 ghost use Rattle.cj_tokens.specs.Left.{left};
 ghost use Rattle.cj_grammar.specs.Reading.{Found, Gives, each_at};
 ghost use Rattle.cj_reader.specs.Known.{scope_in, Grows};
-ghost use Rattle.cj_reader.specs.Reading.{callee_at, one_more_at, next_operand_at, arguments_at};
+ghost use Rattle.cj_reader.specs.Reading.{callee_at, one_more_at, next_operand_at, arguments_at, called_at};
 
+use crate::counts::count_items;
 use crate::memory::remembered;
 use crate::operands::read_operand;
 use crate::refusals::refuse_if;
@@ -16,9 +17,16 @@ use cj_ir::{FunId, Operands};
 use cj_tokens::{Kind, Lexeme, ParseError, Tokens};
 use std::alloc::Global;
 
-/// The function that a NAME calls with a number of arguments.
+/// What is called, and with which arguments.
+#[derive(Drop)]
+pub struct Called {
+    pub function: FunId,
+    pub args: Operands,
+}
+
+// The function that a NAME calls with a number of arguments.
 #[tactic(auto, unfolding(crate::specs::Reading::callee_at))]
-pub fn callee(scope: Scope<'_>, token: Lexeme<'_>, count: u32) -> Result<FunId, ParseError>
+fn callee(scope: Scope<'_>, token: Lexeme<'_>, count: u32) -> Result<FunId, ParseError>
     ensures { Found result (callee_at (scope_in scope.entry) (seen token.entry) count) }
 {
     refuse_if(token.text.len() > 32, token, Kind::TooMany)?;
@@ -60,8 +68,8 @@ fn read_more(
     Ok(operands)
 }
 
-/// So many arguments.
-pub fn read_arguments(
+// So many arguments.
+fn read_arguments(
     alloc: Global,
     tokens: &mut Tokens<'_>,
     scope: Scope<'_>,
@@ -76,4 +84,22 @@ pub fn read_arguments(
     let first = read_operand(tokens, scope)?;
     remembered(operands.push(first))?;
     read_more(tokens, scope, count - 1, operands)
+}
+
+/// A NAME and its arguments in parentheses.
+#[tactic(auto, unfolding(crate::specs::Reading::called_at))]
+pub fn read_called(
+    alloc: Global,
+    tokens: &mut Tokens<'_>,
+    scope: Scope<'_>,
+) -> Result<Called, ParseError>
+    ensures { Gives result (left tokens.new) (called_at (scope_in scope.entry) (left tokens.old)) }
+{
+    let name = tokens.take();
+    let _paren = tokens.take();
+    let count = count_items(*tokens)?;
+    let function = callee(scope, name, count)?;
+    let args = read_arguments(alloc, tokens, scope, count)?;
+    let _paren = tokens.take();
+    Ok(Called { function, args })
 }

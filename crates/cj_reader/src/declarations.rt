@@ -12,7 +12,7 @@ use cj_tokens::{ParseError, Tokens};
 use std::alloc::Global;
 
 /// How many parameters a function has, and its registers.
-#[derive(Debug, Drop)]
+#[derive(Drop)]
 pub struct Declared {
     pub params: u32,
     pub registers: Names,

@@ -6,9 +6,8 @@ ghost use Rattle.cj_grammar.specs.Reading.{Gives};
 ghost use Rattle.cj_reader.specs.Known.{scope_in};
 ghost use Rattle.cj_reader.specs.Reading.{nop_at, op_at, cond_at, call_at, return_at, print_at, load_at, store_at, fail_at, instr_at};
 
-use crate::calls::{callee, read_arguments};
-use crate::counts::count_items;
-use crate::operands::{read_expr, read_operand, read_target, register};
+use crate::calls::{Called, read_called};
+use crate::operands::{read_address, read_dest, read_expr, read_operand, read_target};
 use crate::refusals::refuse_if;
 use crate::scope::Scope;
 use crate::words::text;
@@ -28,9 +27,7 @@ fn read_nop(tokens: &mut Tokens<'_>, scope: Scope<'_>) -> Result<Instr, ParseErr
 fn read_op(tokens: &mut Tokens<'_>, scope: Scope<'_>) -> Result<Instr, ParseError>
     ensures { Gives result (left tokens.new) (op_at (scope_in scope.entry) (left tokens.old)) }
 {
-    let name = tokens.take();
-    let dest = register(scope, name)?;
-    let _equals = tokens.take();
+    let dest = read_dest(tokens, scope)?;
     let expr = read_expr(tokens, scope)?;
     let next = read_target(tokens, scope)?;
     Ok(Instr::Op { dest, expr, next })
@@ -54,15 +51,8 @@ fn read_cond(tokens: &mut Tokens<'_>, scope: Scope<'_>) -> Result<Instr, ParseEr
 fn read_call(alloc: Global, tokens: &mut Tokens<'_>, scope: Scope<'_>) -> Result<Instr, ParseError>
     ensures { Gives result (left tokens.new) (call_at (scope_in scope.entry) (left tokens.old)) }
 {
-    let name = tokens.take();
-    let dest = register(scope, name)?;
-    let _equals = tokens.take();
-    let called = tokens.take();
-    let _paren = tokens.take();
-    let count = count_items(*tokens)?;
-    let function = callee(scope, called, count)?;
-    let args = read_arguments(alloc, tokens, scope, count)?;
-    let _paren = tokens.take();
+    let dest = read_dest(tokens, scope)?;
+    let Called { function, args } = read_called(alloc, tokens, scope)?;
     let next = read_target(tokens, scope)?;
     Ok(Instr::Call {
         dest,
@@ -93,12 +83,8 @@ fn read_print(tokens: &mut Tokens<'_>, scope: Scope<'_>) -> Result<Instr, ParseE
 fn read_load(tokens: &mut Tokens<'_>, scope: Scope<'_>) -> Result<Instr, ParseError>
     ensures { Gives result (left tokens.new) (load_at (scope_in scope.entry) (left tokens.old)) }
 {
-    let name = tokens.take();
-    let dest = register(scope, name)?;
-    let _equals = tokens.take();
-    let _bracket = tokens.take();
-    let address = read_operand(tokens, scope)?;
-    let _bracket = tokens.take();
+    let dest = read_dest(tokens, scope)?;
+    let address = read_address(tokens, scope)?;
     let next = read_target(tokens, scope)?;
     Ok(Instr::Load {
         dest,
@@ -111,9 +97,7 @@ fn read_load(tokens: &mut Tokens<'_>, scope: Scope<'_>) -> Result<Instr, ParseEr
 fn read_store(tokens: &mut Tokens<'_>, scope: Scope<'_>) -> Result<Instr, ParseError>
     ensures { Gives result (left tokens.new) (store_at (scope_in scope.entry) (left tokens.old)) }
 {
-    let _bracket = tokens.take();
-    let address = read_operand(tokens, scope)?;
-    let _bracket = tokens.take();
+    let address = read_address(tokens, scope)?;
     let _equals = tokens.take();
     let value = read_operand(tokens, scope)?;
     let next = read_target(tokens, scope)?;

@@ -1,6 +1,6 @@
 //! Want of memory among the errors of a reader.
 
-ghost use Rattle.std.specs.Prelude.{◌≡◌, ◌+◌, Result, Ok, IfOk, IfErr};
+ghost use Rattle.std.specs.Prelude.{◌≡◌, ◌+◌, Ok, Err, IfOk, IfErr};
 ghost use Rattle.cj_grammar.specs.Reading.{Found};
 ghost use Rattle.cj_tokens.specs.declared.refusal.ParseError.TheVariants as parse;
 
@@ -9,8 +9,8 @@ use cj_tokens::ParseError;
 
 /// Want of memory, as a reader answers it.
 pub fn remembered<T: Drop>(outcome: Result<T, NoMemory>) -> Result<T, ParseError>
-    ensures ok { IfOk result (λ value. outcome ≡ Ok value) }
-    ensures err { IfErr result (λ error. error ≡ parse.NoMemory) }
+    ensures ok { IfOk outcome (λ value. result ≡ Ok value) }
+    ensures err { IfErr outcome (λ error. result ≡ Err parse.NoMemory) }
 {
     match outcome {
         Ok(value) => Ok(value),

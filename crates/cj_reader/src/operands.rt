@@ -8,7 +8,7 @@ ghost use Rattle.cj_grammar.specs.Reading.{Found, Gives};
 ghost use Rattle.cj_reader.specs.Scopes.{name_place};
 ghost use Rattle.cj_reader.specs.Operands.{is_line_number};
 ghost use Rattle.cj_reader.specs.Known.{scope_in};
-ghost use Rattle.cj_reader.specs.Reading.{register_at, label_at, target_at, operand_at, expr_at, rest_at, operator_of};
+ghost use Rattle.cj_reader.specs.Reading.{register_at, label_at, target_at, operand_at, dest_at, address_at, expr_at, rest_at, operator_of};
 
 use crate::operators::{applied, operator_at};
 use crate::refusals::refuse_if;
@@ -78,6 +78,28 @@ pub fn read_operand(tokens: &mut Tokens<'_>, scope: Scope<'_>) -> Result<Operand
     } else {
         Ok(Operand::Const(token.number))
     }
+}
+
+/// A register and the `=` behind it.
+#[tactic(auto, unfolding(crate::specs::Reading::dest_at))]
+pub fn read_dest(tokens: &mut Tokens<'_>, scope: Scope<'_>) -> Result<Reg, ParseError>
+    ensures { Gives result (left tokens.new) (dest_at (scope_in scope.entry) (left tokens.old)) }
+{
+    let name = tokens.take();
+    let dest = register(scope, name)?;
+    let _equals = tokens.take();
+    Ok(dest)
+}
+
+/// An operand in brackets.
+#[tactic(auto, unfolding(crate::specs::Reading::address_at))]
+pub fn read_address(tokens: &mut Tokens<'_>, scope: Scope<'_>) -> Result<Operand, ParseError>
+    ensures { Gives result (left tokens.new) (address_at (scope_in scope.entry) (left tokens.old)) }
+{
+    let _bracket = tokens.take();
+    let address = read_operand(tokens, scope)?;
+    let _bracket = tokens.take();
+    Ok(address)
 }
 
 // What stands behind a first operand.
