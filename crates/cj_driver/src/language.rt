@@ -1,20 +1,34 @@
 //! The examples of the language's reference, each instruction, operator, hint and end once.
 
-use crate::tests::check;
+use crate::checks::check;
 use std::alloc::Global;
 use std::process::Abort;
 use std::test::Fail;
 
-// Checks what a function of the lines writes where a is 7 and b is 2.
-fn writes(rt: &impl Abort, alloc: Global, lines: &str, text: &str) -> Result<(), Fail> {
-    let input = format!(in alloc; "fun main(a, b; r) {{ {lines} }} calls call main 7 2 limit 100")?;
-    let text = format!(in alloc; "call 1\n{text}\n")?;
-    check(rt, alloc, &["alone"], input.as_bytes(), 0, &text)
+// Checks what a function of each of these lines, between that beginning and that end, writes where a is 7 and b is 2.
+fn all_write(
+    rt: &impl Abort,
+    alloc: Global,
+    beginning: &str,
+    end: &str,
+    cases: &[(&str, &str)],
+) -> Result<(), Fail> {
+    for &(lines, text) in cases {
+        let input = [
+            "fun main(a, b; r) { ",
+            beginning,
+            lines,
+            end,
+            " } calls call main 7 2 limit 100",
+        ];
+        check(rt, alloc, &["alone"], &input, 0, &["call 1\n", text, "\n"])?;
+    }
+    Ok(())
 }
 
 #[test]
 fn each_instruction(rt: HostRuntime) -> Result<(), Fail> {
-    for (lines, text) in [
+    let cases = &[
         ("1: nop -> 2  2: return a", "return 7"),
         ("1: op r = a * b -> 2  2: return r", "return 14"),
         ("1: cond b -> 2, 3  2: return 1  3: return 0", "return 1"),
@@ -32,15 +46,13 @@ fn each_instruction(rt: HostRuntime) -> Result<(), Fail> {
             "return 7",
         ),
         ("1: fail \"no more\"", "fail \"no more\""),
-    ] {
-        writes(&rt, rt.alloc(), lines, text)?;
-    }
-    Ok(())
+    ];
+    all_write(&rt, rt.alloc(), "", "", cases)
 }
 
 #[test]
 fn each_operator(rt: HostRuntime) -> Result<(), Fail> {
-    for (expr, text) in [
+    let cases = &[
         ("a", "return 7"),
         ("neg a", "return -7"),
         ("eqz a", "return 0"),
@@ -55,26 +67,21 @@ fn each_operator(rt: HostRuntime) -> Result<(), Fail> {
         ("a < b", "return 0"),
         ("9223372036854775807 + 1", "return -9223372036854775808"),
         ("-9223372036854775808 / -1", "return -9223372036854775808"),
-    ] {
-        let lines = format!(in rt.alloc(); "1: op r = {expr} -> 2  2: return r")?;
-        writes(&rt, rt.alloc(), &lines, text)?;
-    }
-    Ok(())
+    ];
+    all_write(&rt, rt.alloc(), "1: op r = ", " -> 2  2: return r", cases)
 }
 
 #[test]
 fn each_end(rt: HostRuntime) -> Result<(), Fail> {
-    for (lines, text) in [
+    let cases = &[
         ("1: return b", "return 2"),
         ("1: fail \"\"", "fail \"\""),
         ("1: op r = a / 0 -> 2  2: return r", "fault divide"),
         ("1: load r = [64] -> 2  2: return r", "fault address 64"),
         ("1: store [-1] = a -> 2  2: return r", "fault address -1"),
         ("1: nop -> 1", "turn limit"),
-    ] {
-        writes(&rt, rt.alloc(), lines, text)?;
-    }
-    Ok(())
+    ];
+    all_write(&rt, rt.alloc(), "", "", cases)
 }
 
 #[test]
@@ -82,12 +89,6 @@ fn hints_change_nothing(rt: HostRuntime) -> Result<(), Fail> {
     let input = "fun main(a) { 1: cond a -> 2, 3  2: return 1  3: return 0 }
         calls guess main a 7  cold main 1 else  warm main 2
         call main 7 memory 0 limit 10";
-    check(
-        &rt,
-        rt.alloc(),
-        &["alone"],
-        input.as_bytes(),
-        0,
-        "call 1\nreturn 1\n",
-    )
+    let text = "call 1\nreturn 1\n";
+    check(&rt, rt.alloc(), &["alone"], &[input], 0, &[text])
 }

@@ -18,6 +18,8 @@ pub use top::top_alone;
 #[cfg(test)]
 mod bench;
 #[cfg(test)]
+mod checks;
+#[cfg(test)]
 mod language;
 #[cfg(test)]
 mod limits;

@@ -1,6 +1,6 @@
 //! The table of refusals, from bytes to bytes: each limit, and one past it.
 
-use crate::tests::check;
+use crate::checks::{all_refused, check, functions, joined, numbered, refused, repeated};
 use std::alloc::{AllocError, Global};
 use std::process::Abort;
 use std::test::Fail;
@@ -13,65 +13,41 @@ const LONG: &str = "abcdefghijklmnopqrstuvwxyz_45678";
 // A text of 64 bytes.
 const SAID: &str = "the text that stands here has sixty-four bytes between its marks";
 
-// The piece, that many times.
-fn repeated(alloc: Global, piece: &str, count: u32) -> Result<String, AllocError> {
-    let mut text = String::new(alloc);
-    for _ in 0..count {
-        text.push_str(piece)?;
-    }
-    Ok(text)
-}
-
 // That many different names.
 fn register_names(alloc: Global, count: u32) -> Result<String, AllocError> {
     let mut text = String::from_str(alloc, "r")?;
-    for k in 1..count {
-        text.push_str(&format!(in alloc; ", r{k}")?)?;
-    }
+    text.push_str(&numbered(alloc, 1..count, ", r", "")?)?;
     Ok(text)
 }
 
-// That many lines, each with its own label number from 0.
-fn lines(alloc: Global, count: u32) -> Result<String, AllocError> {
-    let mut text = String::new(alloc);
-    for k in 0..count {
-        text.push_str(&format!(in alloc; "{k}: return 0\n")?)?;
+// A function of that many lines, each with its own label number from 0.
+fn of_lines(alloc: Global, count: u32) -> Result<String, AllocError> {
+    let lines = numbered(alloc, 0..count, "", ": return 0\n")?;
+    joined(alloc, &["fun f() { ", &lines, " } calls"])
+}
+
+fn accepted(rt: &impl Abort, alloc: Global, input: &[&str]) -> Result<(), Fail> {
+    check(rt, alloc, &["alone"], input, 0, &[])
+}
+
+fn all_accepted(rt: &impl Abort, alloc: Global, inputs: &[&str]) -> Result<(), Fail> {
+    for input in inputs {
+        accepted(rt, alloc, &[*input])?;
     }
-    Ok(text)
-}
-
-// That many functions, each on a line of its own.
-fn functions(alloc: Global, count: u32) -> Result<String, AllocError> {
-    let mut text = String::new(alloc);
-    for k in 0..count {
-        text.push_str(&format!(in alloc; "fun f{k}() {{ 1: return 0 }}\n")?)?;
-    }
-    Ok(text)
-}
-
-fn accepted(rt: &impl Abort, alloc: Global, input: &str) -> Result<(), Fail> {
-    check(rt, alloc, &["alone"], input.as_bytes(), 0, "")
-}
-
-fn refused(rt: &impl Abort, alloc: Global, input: &str, line: &str) -> Result<(), Fail> {
-    let text = format!(in alloc; "line {line}\n")?;
-    check(rt, alloc, &["alone"], input.as_bytes(), 3, &text)?;
-    check(rt, alloc, &["format"], input.as_bytes(), 3, &text)
+    Ok(())
 }
 
 #[test]
 fn characters_numbers_and_syntax(rt: HostRuntime) -> Result<(), Fail> {
-    let alloc = rt.alloc();
-    for input in [
+    let good = &[
         "fun\tmain(\r\n) {# a comment: ?\n1:return 0}calls",
         "fun main() { 1: return 9223372036854775807 2: return -9223372036854775808 } calls",
         "fun main() { 1: return 00000000000000000000000007 2: return -0 } calls",
         "fun main(n) { 1: op n = n - 1 -> 2 2: op n = n - -1 -> 1 } calls",
         "fun main() { 1: fail \"# is no comment here\" } calls # the end",
-    ] {
-        accepted(&rt, alloc, input)?;
-    }
-    for (input, line) in [
+    ];
+    all_accepted(&rt, rt.alloc(), good)?;
+    let bad = &[
         (
             "fun main() { 1: return 9223372036854775808 } calls",
             "1: Number",
@@ -95,36 +71,45 @@ fn characters_numbers_and_syntax(rt: HostRuntime) -> Result<(), Fail> {
             "fun main() { 1: return x }\ncalls\n99999999999999999999",
             "3: Number",
         ),
-    ] {
-        refused(&rt, alloc, input, line)?;
-    }
-    Ok(())
+    ];
+    all_refused(&rt, rt.alloc(), "", bad)
 }
 
 #[test]
 fn long_names_and_texts(rt: HostRuntime) -> Result<(), Fail> {
     let alloc = rt.alloc();
-    let input = format!(in alloc;
-        "fun {LONG}({LONG}) {{ 1: fail \"{SAID}\" 2: return {LONG} }} calls guess {LONG} {LONG} 1"
-    )?;
-    accepted(&rt, alloc, &input)?;
-    let input = format!(in alloc; "fun {LONG}9() {{\n1: return x }} calls")?;
-    refused(&rt, alloc, &input, "1: TooMany")?;
-    let input = format!(in alloc; "fun f(\n{LONG}9) {{ 1: return x }} calls")?;
-    refused(&rt, alloc, &input, "2: TooMany")?;
+    let longest = [
+        "fun ",
+        LONG,
+        "(",
+        LONG,
+        ") { 1: fail \"",
+        SAID,
+        "\" 2: return ",
+        LONG,
+        " } calls guess ",
+        LONG,
+        " ",
+        LONG,
+        " 1",
+    ];
+    accepted(&rt, alloc, &longest)?;
+    let name = ["fun ", LONG, "9() {\n1: return x } calls"];
+    refused(&rt, alloc, &name, "1: TooMany")?;
+    let parameter = ["fun f(\n", LONG, "9) { 1: return x } calls"];
+    refused(&rt, alloc, &parameter, "2: TooMany")?;
     // more than 32 bytes stand before a register that is not there
-    let input = format!(in alloc; "fun f() {{\n1: return {LONG}9 }} calls")?;
-    refused(&rt, alloc, &input, "2: TooMany")?;
-    let input = format!(in alloc; "fun f() {{\n1: fail \"{SAID}.\" }} calls")?;
-    refused(&rt, alloc, &input, "2: TooMany")
+    let register = ["fun f() {\n1: return ", LONG, "9 } calls"];
+    refused(&rt, alloc, &register, "2: TooMany")?;
+    let text = ["fun f() {\n1: fail \"", SAID, ".\" } calls"];
+    refused(&rt, alloc, &text, "2: TooMany")
 }
 
 #[test]
 fn names(rt: HostRuntime) -> Result<(), Fail> {
-    let alloc = rt.alloc();
     let input = "fun f(x; y) { 1: call y = g(x, y) -> 1 } fun g(x, y) { 1: return y } calls";
-    accepted(&rt, alloc, input)?;
-    for (input, line) in [
+    accepted(&rt, rt.alloc(), &[input])?;
+    let bad = &[
         (
             "fun f() { 1: return 0 }\nfun f() { 1: return 0 } calls",
             "2: NameTwice",
@@ -147,22 +132,18 @@ fn names(rt: HostRuntime) -> Result<(), Fail> {
             "fun f(a) { 1: return a }\ncalls\ncall f limit 1",
             "3: Arguments",
         ),
-    ] {
-        refused(&rt, alloc, input, line)?;
-    }
-    Ok(())
+    ];
+    all_refused(&rt, rt.alloc(), "", bad)
 }
 
 #[test]
 fn labels_and_their_numbers(rt: HostRuntime) -> Result<(), Fail> {
-    let alloc = rt.alloc();
-    for input in [
+    let good = &[
         "fun f() { 0: nop -> 65535 65535: return 0 } calls",
         "fun f(a) { 7: cond a -> 8, 7 8: return a } calls cold f 7 then cold f 7 else",
-    ] {
-        accepted(&rt, alloc, input)?;
-    }
-    for (input, line) in [
+    ];
+    all_accepted(&rt, rt.alloc(), good)?;
+    let bad = &[
         (
             "fun f() { 0: nop -> 65535\n65536: return 0 } calls",
             "1: NoLabel",
@@ -184,8 +165,15 @@ fn labels_and_their_numbers(rt: HostRuntime) -> Result<(), Fail> {
             "fun f(a) { 7: cond a -> 8, 7 8: return a } calls cold f\n8 then",
             "2: NotCond",
         ),
-    ] {
-        refused(&rt, alloc, input, line)?;
+    ];
+    all_refused(&rt, rt.alloc(), "", bad)
+}
+
+// Checks that each script runs its one call.
+fn all_return(rt: &impl Abort, alloc: Global, scripts: &[&str]) -> Result<(), Fail> {
+    for script in scripts {
+        let text = "call 1\nreturn 0\n";
+        check(rt, alloc, &["alone"], &[MAIN, *script], 0, &[text])?;
     }
     Ok(())
 }
@@ -193,20 +181,16 @@ fn labels_and_their_numbers(rt: HostRuntime) -> Result<(), Fail> {
 #[test]
 fn numbers_of_a_script(rt: HostRuntime) -> Result<(), Fail> {
     let alloc = rt.alloc();
-    for script in ["warm main 1 warm main 3", ""] {
-        accepted(&rt, alloc, &format!(in alloc; "{MAIN}{script}")?)?;
-    }
-    let run = "call 1\nreturn 0\n";
-    for script in [
+    accepted(&rt, alloc, &[MAIN, "warm main 1 warm main 3"])?;
+    accepted(&rt, alloc, &[MAIN])?;
+    let good = &[
         "call main limit 1",
         "call main limit 1000000",
         "call main memory 0 limit 1",
         "call main memory 65536 limit 1",
-    ] {
-        let input = format!(in alloc; "{MAIN}{script}")?;
-        check(&rt, alloc, &["alone"], input.as_bytes(), 0, run)?;
-    }
-    for (script, line) in [
+    ];
+    all_return(&rt, alloc, good)?;
+    let bad = &[
         ("warm main\n0", "3: Range"),
         ("warm main\n4", "3: Range"),
         ("warm other\n4", "2: NoFunction"),
@@ -217,55 +201,63 @@ fn numbers_of_a_script(rt: HostRuntime) -> Result<(), Fail> {
         // the sum of the limits stands before the range of one
         ("call main limit\n4000001", "3: TooMany"),
         ("call main 5 limit 1", "2: Arguments"),
-    ] {
-        refused(&rt, alloc, &format!(in alloc; "{MAIN}{script}")?, line)?;
-    }
-    Ok(())
+    ];
+    all_refused(&rt, alloc, MAIN, bad)
+}
+
+// Eight parameters, and one more.
+fn eight_parameters(rt: &impl Abort, alloc: Global, eight: &str) -> Result<(), Fail> {
+    accepted(rt, alloc, &["fun f(", eight, ") { 1: return 0 } calls"])?;
+    let more = ["fun f(", eight, ",\nx) { 1: return 0 } calls"];
+    refused(rt, alloc, &more, "2: TooMany")
+}
+
+// As many registers as there may be, and one more, or a parameter.
+fn many_registers(rt: &impl Abort, alloc: Global, many: &str) -> Result<(), Fail> {
+    accepted(rt, alloc, &["fun f(;", many, ") { 1: return 0 } calls"])?;
+    let more = ["fun f(;", many, ",\nx) { 1: return 0 } calls"];
+    refused(rt, alloc, &more, "2: TooMany")?;
+    let parameter = ["fun f(x;\n", many, ") { 1: return 0 } calls"];
+    refused(rt, alloc, &parameter, "2: TooMany")
 }
 
 #[test]
 fn many_parameters_and_registers(rt: HostRuntime) -> Result<(), Fail> {
     let alloc = rt.alloc();
-    let eight = register_names(alloc, 8)?;
-    let many = register_names(alloc, 32)?;
-    let input = format!(in alloc; "fun f({eight}) {{ 1: return 0 }} calls")?;
-    accepted(&rt, alloc, &input)?;
-    let input = format!(in alloc; "fun f(;{many}) {{ 1: return 0 }} calls")?;
-    accepted(&rt, alloc, &input)?;
-    let input = format!(in alloc; "fun f({eight},\nx) {{ 1: return 0 }} calls")?;
-    refused(&rt, alloc, &input, "2: TooMany")?;
-    let input = format!(in alloc; "fun f(;{many},\nx) {{ 1: return 0 }} calls")?;
-    refused(&rt, alloc, &input, "2: TooMany")?;
-    let input = format!(in alloc; "fun f(x;\n{many}) {{ 1: return 0 }} calls")?;
-    refused(&rt, alloc, &input, "2: TooMany")
+    eight_parameters(&rt, alloc, &register_names(alloc, 8)?)?;
+    many_registers(&rt, alloc, &register_names(alloc, 32)?)
 }
 
 #[test]
 fn many_lines_and_functions(rt: HostRuntime) -> Result<(), Fail> {
     let alloc = rt.alloc();
-    let input = format!(in alloc; "fun f() {{ {} }} calls", lines(alloc, 256)?)?;
-    accepted(&rt, alloc, &input)?;
-    let input = format!(in alloc; "fun f() {{ {} }} calls", lines(alloc, 257)?)?;
-    refused(&rt, alloc, &input, "257: TooMany")?;
-    let input = format!(in alloc; "{}calls", functions(alloc, 64)?)?;
-    accepted(&rt, alloc, &input)?;
-    let input = format!(in alloc; "{}calls", functions(alloc, 65)?)?;
-    refused(&rt, alloc, &input, "65: TooMany")
+    accepted(&rt, alloc, &[&of_lines(alloc, 256)?])?;
+    refused(&rt, alloc, &[&of_lines(alloc, 257)?], "257: TooMany")?;
+    accepted(&rt, alloc, &[&functions(alloc, 64)?, "calls"])?;
+    refused(
+        &rt,
+        alloc,
+        &[&functions(alloc, 65)?, "calls"],
+        "65: TooMany",
+    )
+}
+
+// Calls that are as many as there may be, or have as many turns, and one more.
+fn one_call_more(rt: &impl Abort, alloc: Global, calls: &str) -> Result<(), Fail> {
+    refused(
+        rt,
+        alloc,
+        &[MAIN, calls, "\ncall main limit 1"],
+        "3: TooMany",
+    )
 }
 
 #[test]
 fn many_calls_and_turns(rt: HostRuntime) -> Result<(), Fail> {
     let alloc = rt.alloc();
     let calls = repeated(alloc, "call main limit 15625 ", 256)?;
-    let mut text = String::new(alloc);
-    for k in 1..257_u32 {
-        text.push_str(&format!(in alloc; "call {k}\nreturn 0\n")?)?;
-    }
-    let input = format!(in alloc; "{MAIN}{calls}")?;
-    check(&rt, alloc, &["alone"], input.as_bytes(), 0, &text)?;
-    let input = format!(in alloc; "{MAIN}{calls}\ncall main limit 1")?;
-    refused(&rt, alloc, &input, "3: TooMany")?;
-    let calls = repeated(alloc, "call main limit 1000000 ", 4)?;
-    let input = format!(in alloc; "{MAIN}{calls}\ncall main limit 1")?;
-    refused(&rt, alloc, &input, "3: TooMany")
+    let text = numbered(alloc, 1..257, "call ", "\nreturn 0\n")?;
+    check(&rt, alloc, &["alone"], &[MAIN, &calls], 0, &[&text])?;
+    one_call_more(&rt, alloc, &calls)?;
+    one_call_more(&rt, alloc, &repeated(alloc, "call main limit 1000000 ", 4)?)
 }

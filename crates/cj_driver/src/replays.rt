@@ -1,6 +1,6 @@
 //! Worked replays, from bytes to bytes.
 
-use crate::tests::check;
+use crate::checks::check;
 use std::alloc::Global;
 use std::process::Abort;
 use std::test::Fail;
@@ -36,8 +36,8 @@ fn plays(
     events: &str,
     text: &str,
 ) -> Result<(), Fail> {
-    let input = format!(in alloc; "{program} events {events}")?;
-    check(rt, alloc, &["replay", "stats"], input.as_bytes(), 0, text)
+    let input = [program, " events ", events];
+    check(rt, alloc, &["replay", "stats"], &input, 0, &[text])
 }
 
 #[test]

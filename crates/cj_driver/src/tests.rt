@@ -1,6 +1,8 @@
 //! Worked calls of the program, from bytes to bytes.
 
-use crate::{fault_line, top_alone};
+use crate::checks::{
+    USAGE, all_refused, answer, check, functions, joined, numbered, refused, repeated,
+};
 use cj_io::{MemSink, MemSource};
 use std::alloc::{AllocError, Global};
 use std::process::Abort;
@@ -62,39 +64,24 @@ fun total(; x, y) {
 }
 ";
 
-// The words as a command line gives them.
-fn command_line(alloc: Global, words: &[&str]) -> Result<Vec<String>, AllocError> {
-    let mut spelled = Vec::new(alloc);
-    for word in words {
-        spelled.push(String::from_str(alloc, word)?)?;
+// Checks what is written for each program with its calls.
+fn all_run(rt: &impl Abort, alloc: Global, cases: &[(&str, &str, &str)]) -> Result<(), Fail> {
+    for &(program, calls, text) in cases {
+        check(
+            rt,
+            alloc,
+            &["alone"],
+            &[program, " calls ", calls],
+            0,
+            &[text],
+        )?;
     }
-    Ok(spelled)
-}
-
-// Checks what is written for an input, the line of the status behind it, by a source and a sink that never fail.
-pub(crate) fn check(
-    rt: &impl Abort,
-    alloc: Global,
-    words: &[&str],
-    input: &[u8],
-    status: u8,
-    text: &str,
-) -> Result<(), Fail> {
-    let words = command_line(alloc, words)?;
-    let mut source = MemSource::new(input.to_vec(alloc)?, 1000, Vec::new(alloc));
-    let mut sink = MemSink::new(alloc, 1000, Vec::new(alloc));
-    let finish = top_alone(alloc, &words, &mut source, &mut sink);
-    let mut written = sink.written().to_vec(alloc)?;
-    written.extend_from_slice(&fault_line(alloc, &finish)?)?;
-    assert_eq!(rt; written.as_slice(), text.as_bytes(), "{input:?}");
-    assert_eq!(rt; finish.status, status);
     Ok(())
 }
 
 #[test]
 fn alone_writes_prints_and_ends(rt: HostRuntime) -> Result<(), Fail> {
-    let alloc = rt.alloc();
-    for (program, calls, text) in [
+    let cases = &[
         (INCREMENT, "call main 4 limit 100", "call 1\n5\nreturn 5\n"),
         (
             INCREMENT,
@@ -131,122 +118,117 @@ fn alone_writes_prints_and_ends(rt: HostRuntime) -> Result<(), Fail> {
             "call main 100 limit 1000",
             "call 1\nreturn 100\n",
         ),
-    ] {
-        let input = format!(in alloc; "{program} calls {calls}")?;
-        check(&rt, alloc, &["alone"], input.as_bytes(), 0, text)?;
+    ];
+    all_run(&rt, rt.alloc(), cases)
+}
+
+// What is written for the calls of the bank: the first two find too little on the account.
+fn paid(alloc: Global) -> Result<String, AllocError> {
+    let mut text = String::from_str(alloc, "call 1\n0\nreturn 150\ncall 2\n0\nreturn 250\n")?;
+    for k in 3..41_u32 {
+        let value = k.wrapping_mul(100).wrapping_add(30);
+        text.push_str(&format!(in alloc; "call {k}\n1\nreturn {value}\n")?)?;
     }
-    Ok(())
+    Ok(text)
 }
 
 #[test]
 fn the_bank_script_pays_and_is_paid(rt: HostRuntime) -> Result<(), Fail> {
     let alloc = rt.alloc();
-    let mut input = format!(in alloc; "{BANK}calls\n")?;
-    let mut text = String::new(alloc);
-    for k in 1..41_u32 {
-        input.push_str(&format!(in alloc; "call main {k} limit 2000\n")?)?;
-        let block = match k {
-            1 => format!(in alloc; "call 1\n0\nreturn 150\n")?,
-            2 => format!(in alloc; "call 2\n0\nreturn 250\n")?,
-            _ => format!(in alloc;
-                "call {k}\n1\nreturn {}\n",
-                k.wrapping_mul(100).wrapping_add(30)
-            )?,
-        };
-        text.push_str(&block)?;
-    }
-    check(&rt, alloc, &["alone"], input.as_bytes(), 0, &text)
+    let calls = numbered(alloc, 1..41, "call main ", " limit 2000\n")?;
+    check(
+        &rt,
+        alloc,
+        &["alone"],
+        &[BANK, "calls\n", &calls],
+        0,
+        &[&paid(alloc)?],
+    )
 }
 
 #[test]
 fn format_writes_the_canonical_text(rt: HostRuntime) -> Result<(), Fail> {
-    let alloc = rt.alloc();
-    let text = format!(in alloc; "{INCREMENT}calls\ncall main 4 memory 64 limit 100\n")?;
+    let text = &[INCREMENT, "calls\ncall main 4 memory 64 limit 100\n"];
     let input =
         "fun main ( n ;r){# a comment\n1:op r=n+1->2 2:print r->3\n3 : return r }calls call main 04 limit 100";
-    check(&rt, alloc, &["format"], input.as_bytes(), 0, &text)?;
-    check(&rt, alloc, &["format"], text.as_bytes(), 0, &text)
+    check(&rt, rt.alloc(), &["format"], &[input], 0, text)?;
+    check(&rt, rt.alloc(), &["format"], text, 0, text)
 }
 
 #[test]
 fn refusals_tell_line_and_kind(rt: HostRuntime) -> Result<(), Fail> {
     let alloc = rt.alloc();
-    for (input, line) in [
-        ("", "line 1: Syntax\n"),
+    let cases = &[
+        ("", "1: Syntax"),
         (
             "fun main(a, b, c, d, e, f, g, h, i) { 1: return 0 } calls",
-            "line 1: TooMany\n",
+            "1: TooMany",
         ),
         (
             "fun main(n; r) {\n1: op r = n + 1 -> 2\n2: print q -> 3\n3: return r\n}\ncalls",
-            "line 3: NoRegister\n",
+            "3: NoRegister",
         ),
         (
             "fun main(n; r) {\n1: op r = n + 1 -> 2\n2: print r -> 2\n2: return r\n}\ncalls",
-            "line 4: LabelTwice\n",
+            "4: LabelTwice",
         ),
         (
             "fun main(n; r) {\n1: op r = n + 1 -> 3\n3: print q -> 3\n3: return r\n}\ncalls",
-            "line 3: NoRegister\n",
+            "3: NoRegister",
         ),
         (
             "fun main(n; r) {\n1: op r = n + 1 -> 3\n1: print q -> 3\n3: return r\n}\ncalls",
-            "line 3: LabelTwice\n",
+            "3: LabelTwice",
         ),
-        (
-            "fun main() { 1: return 0 } calls\n? call",
-            "line 2: Character\n",
-        ),
+        ("fun main() { 1: return 0 } calls\n? call", "2: Character"),
         (
             "fun main() { 1: return 9223372036854775808 } calls",
-            "line 1: Number\n",
+            "1: Number",
         ),
         (
             "fun main() { 1: return 0 } calls\ncall main limit 0",
-            "line 2: Range\n",
+            "2: Range",
         ),
         (
             "fun main() { 1: return 0 } calls\ncall other limit 1",
-            "line 2: NoFunction\n",
+            "2: NoFunction",
         ),
-    ] {
-        check(&rt, alloc, &["alone"], input.as_bytes(), 3, line)?;
-        check(&rt, alloc, &["format"], input.as_bytes(), 3, line)?;
-    }
-    let mut many = String::new(alloc);
-    for k in 0..65 {
-        many.push_str(&format!(in alloc; "fun f{k}() {{ 1: return 0 }}\n")?)?;
-    }
-    many.push_str("calls")?;
-    check(
+    ];
+    all_refused(&rt, alloc, "", cases)?;
+    refused(
         &rt,
         alloc,
-        &["alone"],
-        many.as_bytes(),
-        3,
-        "line 65: TooMany\n",
+        &[&functions(alloc, 65)?, "calls"],
+        "65: TooMany",
     )
+}
+
+// Checks how the call of the increment ends whose read and whose write of these numbers fail.
+fn stops(
+    rt: &impl Abort,
+    alloc: Global,
+    read: u64,
+    write: u64,
+    status: u8,
+    text: &[u8],
+) -> Result<(), Fail> {
+    let input = joined(alloc, &[INCREMENT, "calls call main 4 limit 100"])?;
+    let source = MemSource::new(input.into_bytes(), 16, vec![in alloc; read]?);
+    let sink = MemSink::new(alloc, 7, vec![in alloc; write]?);
+    let answer = answer(alloc, &["alone"], source, sink)?;
+    assert_eq!(rt; answer.0, status);
+    assert_eq!(rt; answer.1.as_slice(), text);
+    Ok(())
 }
 
 #[test]
 fn faults_stop_a_call(rt: HostRuntime) -> Result<(), Fail> {
     let alloc = rt.alloc();
-    let usage =
-        "usage: corejit alone [stats] | replay [stats] | format | bench N [CALLERS WORKERS] | run CALLERS WORKERS\n";
-    check(&rt, alloc, &["loud"], b"", 2, usage)?;
-    check(&rt, alloc, &["replay", "loud"], b"", 2, usage)?;
-    let blanks = vec![in alloc; b' '; 4_194_305]?;
-    check(&rt, alloc, &["alone"], &blanks, 7, "too long\n")?;
-    let input = format!(in alloc; "{INCREMENT}calls call main 4 limit 100")?;
-    let words = command_line(alloc, &["alone"])?;
+    check(&rt, alloc, &["loud"], &[], 2, &[USAGE])?;
+    check(&rt, alloc, &["replay", "loud"], &[], 2, &[USAGE])?;
+    let blanks = repeated(alloc, " ", 4_194_305)?;
+    check(&rt, alloc, &["alone"], &[&blanks], 7, &["too long\n"])?;
     // the second read fails, and then the second write
-    for (read_fails, write_fails, status, text) in [(2, 9, 4, ""), (999, 2, 5, "call 1\n")] {
-        let bytes = input.as_bytes().to_vec(alloc)?;
-        let mut source = MemSource::new(bytes, 16, vec![in alloc; read_fails]?);
-        let mut sink = MemSink::new(alloc, 7, vec![in alloc; write_fails]?);
-        let finish = top_alone(alloc, &words, &mut source, &mut sink);
-        assert_eq!(rt; finish.status, status);
-        assert_eq!(rt; sink.written(), text.as_bytes());
-    }
-    Ok(())
+    stops(&rt, alloc, 2, 9, 4, b"read fault\n")?;
+    stops(&rt, alloc, 999, 2, 5, b"call 1\n")
 }
