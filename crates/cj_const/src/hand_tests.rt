@@ -1,14 +1,14 @@
 //! A code by hand: an assignment, a swap and an Assume behind a store that fails. No run comes to them, but the facts go on.
 
-ghost use Rattle.std.specs.Prelude.{◌≡◌, true, IfOk, List, ℤ, negsuc, []};
+ghost use Rattle.std.specs.Prelude.{◌≡◌, true, IfOk, List, ℤ, negsuc};
 ghost use Rattle.cj_ir.specs.declared.language.Operand.TheVariants as operand;
 ghost use Rattle.cj_ir.specs.declared.language.Guard.TheVariants.{Is};
 ghost use Rattle.cj_base.specs.Machine.{Faults, BadAddress};
-ghost use Rattle.cj_draft.specs.declared.facts.Facts.TheVariants as facts;
-ghost use Rattle.cj_draft.specs.declared.instructions.VInstr.TheVariants.{Assume, Return};
+ghost use Rattle.cj_draft.specs.declared.instructions.VInstr.TheVariants.{Assume};
 ghost use Rattle.cj_draft.specs.Effects.{version_effect, Plain};
 ghost use Rattle.cj_const.specs.Behind.{reg, label, failing, six, swap, guards, place, behind};
 
+use crate::knowledge::{known, row_of};
 use crate::{fold, strongest};
 use cj_draft::laws::base_body_is_sound;
 use cj_draft::{
@@ -277,5 +277,13 @@ fn the_code_tells_what_is_known(rt: HostRuntime) -> Result<(), Fail> {
 fn a_false_guard_stands_for_all(rt: HostRuntime) -> Result<(), Fail> {
     let code = folded(&rt, rt.alloc())?;
     assert!(rt; assumes(&code, 3, &[Guard::Never]));
+    Ok(())
+}
+
+// No draft has two facts of a register.
+#[test]
+fn the_first_fact_of_a_register_is_told(rt: HostRuntime) -> Result<(), Fail> {
+    let row = row_of(rt.alloc(), &[fact(1, 5), fact(1, 6)], 2)?;
+    assert_eq!(rt; known(row.items(), Reg(1)), Some(5));
     Ok(())
 }
