@@ -13,3 +13,4 @@ pub mod Meeting
 pub mod SearchSteps
 pub mod SearchEnds
 pub mod SearchCalls
+pub mod BehindSound

@@ -2,3 +2,4 @@ pub mod Knowledge
 pub mod Flow
 pub mod Folding
 pub mod Search
+pub mod Behind

@@ -13,4 +13,6 @@ pub use folding::fold;
 pub use search::strongest;
 
 #[cfg(test)]
+mod hand_tests;
+#[cfg(test)]
 mod tests;

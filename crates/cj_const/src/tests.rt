@@ -42,12 +42,12 @@ fn add_line(code: &mut Lines, name: u32, instr: Instr) -> Result<(), Fail> {
     Ok(code.push(Line { name, instr })?)
 }
 
-// r = one or r = other, and then its return
-fn merge(alloc: Global, one: i64, other: i64) -> Result<Lines, Fail> {
+// One instruction or another, and then the return of r
+fn merge(alloc: Global, one: Instr, other: Instr) -> Result<Lines, Fail> {
     let mut code = Lines::new(alloc);
     add_line(&mut code, 1, cond(N, 1, 2))?;
-    add_line(&mut code, 2, constant(one, 3))?;
-    add_line(&mut code, 3, constant(other, 3))?;
+    add_line(&mut code, 2, one)?;
+    add_line(&mut code, 3, other)?;
     add_line(&mut code, 4, Instr::Return { value: R })?;
     Ok(code)
 }
@@ -88,10 +88,15 @@ fn function(rt: &impl Abort, alloc: Global, name: &str, code: Lines) -> Result<F
 
 fn program(rt: &impl Abort, alloc: Global) -> Result<Checked, Fail> {
     let mut functions = Functions::new(alloc);
-    functions.push(function(rt, alloc, "equal", merge(alloc, 1, 1)?)?)?;
-    functions.push(function(rt, alloc, "different", merge(alloc, 1, 2)?)?)?;
+    let equal = merge(alloc, constant(1, 3), constant(1, 3))?;
+    functions.push(function(rt, alloc, "equal", equal)?)?;
+    let different = merge(alloc, constant(1, 3), constant(2, 3))?;
+    functions.push(function(rt, alloc, "different", different)?)?;
     functions.push(function(rt, alloc, "zero_divisor", zero_divisor(alloc)?)?)?;
     functions.push(function(rt, alloc, "decided", decided(alloc)?)?)?;
+    let next = Label(3);
+    let half = merge(alloc, constant(1, 3), Instr::Nop { next })?;
+    functions.push(function(rt, alloc, "half", half)?)?;
     Ok(check(Program { functions }).expect(rt, "a well-formed program"))
 }
 
@@ -173,6 +178,14 @@ fn different_constants_do_not(rt: HostRuntime) -> Result<(), Fail> {
     assert!(rt; tests(&folded.code, 0, N));
     assert!(rt; computes(&folded.code, 1, Expr::Copy(Operand::Const(1))));
     assert!(rt; computes(&folded.code, 2, Expr::Copy(Operand::Const(2))));
+    assert!(rt; returns(&folded.code, 3, R));
+    Ok(())
+}
+
+#[test]
+fn what_one_edge_alone_tells_is_not_known(rt: HostRuntime) -> Result<(), Fail> {
+    let folded = fold_of(&rt, rt.alloc(), 4)?;
+    assert!(rt; has_facts(&folded.facts, 3, &[]));
     assert!(rt; returns(&folded.code, 3, R));
     Ok(())
 }
