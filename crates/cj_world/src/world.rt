@@ -165,6 +165,7 @@ impl<'p> World<'p> {
         requires orderly { Orderly self.old }
         ensures made { OnOk result (world_of self.new ≡ finished self.old.cache.checked.now (length self.old.runs.items) (world_of self.old)) }
         ensures checked { OnOk result (self.new.cache.checked.now ≡ self.old.cache.checked.now) }
+        ensures words { OnOk result (self.new.words ≡ self.old.words) }
         ensures through { OnOk result (All IsThrough self.new.runs.items) }
         ensures orderly { OnOk result (Orderly self.new) }
     {

@@ -13,7 +13,7 @@ use Rattle.cj_world.proofs.world.World.finish.Goals as goal
 pub loop-place-init : goal.loop-place-init
 unfolding finished
 loop-place-init c =
-    record { made = refl; checked = refl; begun = refl; through = All-nil IsThrough; orderly = c.requires.orderly }
+    record { made = refl; checked = refl; words = refl; begun = refl; through = All-nil IsThrough; orderly = c.requires.orderly }
 
 pub loop-place-preserved : goal.loop-place-preserved
 loop-place-preserved c =
@@ -32,6 +32,7 @@ loop-place-preserved c =
     record {
       made = finished_more P k (world_of c.args.self.now) c.loop-place.self c.go.new.self run i.made at made;
       checked = e.checked ∙ i.checked;
+      words = e.words ∙ i.words;
       begun = e.begun ∙ i.begun;
       through = subst (All IsThrough) (sym all) (All-push IsThrough (take k items) e.gone.now i.through through);
       orderly = e.orderly;

@@ -8,6 +8,7 @@ abbrev pub invariant-loop-place : goal.invariant-loop-place
 invariant-loop-place l = record {
   made : world_of l.self ≡ finished l.fn.self.cache.checked.now l.place (world_of l.fn.self);
   checked : l.self.cache.checked.now ≡ l.fn.self.cache.checked.now;
+  words : l.self.words ≡ l.fn.self.words;
   begun : length l.self.runs.items ≡ length l.fn.self.runs.items;
   through : All IsThrough (take l.place l.self.runs.items);
   orderly : Orderly l.self;
