@@ -42,11 +42,14 @@ fn plays(
 
 #[test]
 fn a_guard_holds_and_fails(rt: HostRuntime) -> Result<(), Fail> {
-    let events = "compile main { anchors 0 assume 3 when 0 = 5 }
-        begin main 5 limit 100 begin main 6 limit 100";
     let text = "call 1\n10\nreturn 10\nturns 4 base 3 fails 0\n\
         call 2\n12\nreturn 12\nturns 4 base 3 fails 1\n";
-    plays(&rt, rt.alloc(), DOUBLE, events, text)
+    let one = "compile main { anchors 0 assume 3 when 0 = 5 }
+        begin main 5 limit 100 begin main 6 limit 100";
+    plays(&rt, rt.alloc(), DOUBLE, one, text)?;
+    let two = "compile main { anchors 0 1 assume 3 when 0 = 5, 1 = 0 }
+        begin main 5 limit 100 begin main 6 limit 100";
+    plays(&rt, rt.alloc(), DOUBLE, two, text)
 }
 
 #[test]
@@ -95,4 +98,33 @@ fn a_zero_divisor_is_not_folded(rt: HostRuntime) -> Result<(), Fail> {
     let events = "compile main { const } begin main limit 10";
     let text = "call 1\nfault divide\nturns 1 base 1 fails 0\n";
     plays(&rt, rt.alloc(), ZERO_DIVISOR, events, text)
+}
+
+#[test]
+fn runs_go_on_in_turn(rt: HostRuntime) -> Result<(), Fail> {
+    let events = "begin main 3 limit 100 begin main 4 limit 100
+        step 2 1 step 1 2 compile twice { const } step 2 2 step 1 100";
+    let text = "call 1\nreturn 12\nturns 7 base 7 fails 0\n\
+        call 2\nreturn 16\nturns 7 base 7 fails 0\n";
+    plays(&rt, rt.alloc(), TWICE, events, text)
+}
+
+#[test]
+fn counts_are_written_where_they_are_asked_for(rt: HostRuntime) -> Result<(), Fail> {
+    let input = [DOUBLE, " events begin main 5 memory 9 limit 100"];
+    let text = ["call 1\n10\nreturn 10\n"];
+    check(&rt, rt.alloc(), &["replay"], &input, 0, &text)
+}
+
+#[test]
+fn a_refused_replay_tells_its_line_and_kind(rt: HostRuntime) -> Result<(), Fail> {
+    let input = ["fun main() { 1: return 0 } events\nstep 1 1"];
+    check(
+        &rt,
+        rt.alloc(),
+        &["replay"],
+        &input,
+        3,
+        &["line 2: Range\n"],
+    )
 }
