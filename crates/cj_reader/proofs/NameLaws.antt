@@ -64,15 +64,15 @@ others_reads params None close ts = rw (leaf_number close, append-nil params) re
 others_reads params (Some (semicolon, t)) close ts =
     rw (leaf_number semicolon, count_names (Some t) (close.token ∷ ts) (close_counts close ts)) (names_reads 32 params (Some t) (close.token ∷ ts))
 
-pub declared_reads : (params : Tree (opt names)) (others : Tree Others) (close : Leaf (Is terminal.CloseParen)) (ts : List Lexeme) → declared_at (leaves (opt names) params ++ (leaves Others others ++ close.token ∷ ts)) ≡ reads (names_offences 8 [] (name_tokens params) ++ names_offences 32 (texts_of (name_tokens params)) (other_names others)) (record { params = length (name_tokens params); registers = texts_of (name_tokens params) ++ texts_of (other_names others) }) (close.token ∷ ts)
-unfolding declared_at
-declared_reads params others close ts =
+pub declared_reads : (open_paren : Leaf (Is terminal.OpenParen)) (params : Tree (opt names)) (others : Tree Others) (close : Leaf (Is terminal.CloseParen)) (ts : List Lexeme) → declared_at (open_paren.token ∷ (leaves (opt names) params ++ (leaves Others others ++ close.token ∷ ts))) ≡ reads (names_offences 8 [] (name_tokens params) ++ names_offences 32 (texts_of (name_tokens params)) (other_names others)) (record { params = length (name_tokens params); registers = texts_of (name_tokens params) ++ texts_of (other_names others) }) ts
+unfolding declared_at behind
+declared_reads open_paren params others close ts =
     let us : List Lexeme = leaves Others others ++ close.token ∷ ts in
     let ps : List (List ℕ) = texts_of (name_tokens params) in
     let n : length ps ≡ length (name_tokens params) = length-map (name_tokens params) (λ t. t.text) in
     rw (count_names params us (others_count others close ts), names_reads 8 [] params us)
-    (reads_then (names_offences 8 [] (name_tokens params)) (names_offences 32 ps (other_names others)) ps _ us (close.token ∷ ts) _
-    (rw (others_reads ps others close ts, n) (reads_last (names_offences 32 ps (other_names others)) (ps ++ texts_of (other_names others)) _ (close.token ∷ ts) (close.token ∷ ts) _ refl)))
+    (reads_then (names_offences 8 [] (name_tokens params)) (names_offences 32 ps (other_names others)) ps _ us ts _
+    (rw (others_reads ps others close ts, n) (reads_last (names_offences 32 ps (other_names others)) (ps ++ texts_of (other_names others)) _ (close.token ∷ ts) ts _ refl)))
 
 -- behind a `;` stand the other registers
 pub others_there : (params : List (List ℕ)) (ts : List Lexeme) → is_terminal terminal.Semicolon (front ts) ≡ true → others_at params ts ≡ names_at 32 (count_at (behind ts)) params (behind ts)

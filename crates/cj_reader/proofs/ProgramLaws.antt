@@ -67,7 +67,7 @@ function_reads heads earlier keys ((word, (name, (left, (params, (others, right)
     rw (regroup, l, function_name_decides (first_named 0 heads) keys name.token name.is h)
     (regrouped (name_offences 64 keys name.token) ns bs _ us _
     (decided_then (name_offences 64 keys name.token) (ns ++ bs) name.token.text _ us _
-    (rw (declared_reads params others right vs) (reads_then ns bs (declared params others) _ (right.token ∷ vs) us _
+    (rw (declared_reads left params others right vs) (reads_then ns bs (declared params others) _ vs us _
     (rw (code_reads heads front body close us) (reads_last bs (lines_of (function_scope heads front body) body) _ us us _ refl)))))
     )
 

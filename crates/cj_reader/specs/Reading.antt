@@ -216,10 +216,10 @@ others_at params ts =
 
 -- ---- functions
 
--- behind the `(`
+-- what a function declares, in parentheses
 unfoldable pub declared_at : List Lexeme → Read Declared
 declared_at ts =
-    names_at 8 (count_at ts) [] ts >>= λ params. others_at params.0 params.1 >>= λ all. Ok (record { params = length params.0; registers = all.0 }, all.1)
+    names_at 8 (count_at (behind ts)) [] (behind ts) >>= λ params. others_at params.0 params.1 >>= λ all. Ok (record { params = length params.0; registers = all.0 }, behind all.1)
 
 -- the function that has a name
 abbrev pub Known : Type 0
@@ -249,7 +249,7 @@ code_at known registers ts = body_at (scope_at known registers ts) (length (numb
 
 unfoldable pub function_at : Known → List Function → List Lexeme → Read Function
 function_at known earlier ts =
-    function_name_at known (length earlier) (front (behind ts)) >>= λ name. declared_at (behind (behind (behind ts))) >>= λ front. code_at known front.0.registers (behind (behind front.1)) >>= λ code. Ok (record { name = name; params = front.0.params; regs = front.0.registers; code = code.0 }, code.1)
+    function_name_at known (length earlier) (front (behind ts)) >>= λ name. declared_at (behind (behind ts)) >>= λ front. code_at known front.0.registers (behind front.1) >>= λ code. Ok (record { name = name; params = front.0.params; regs = front.0.registers; code = code.0 }, code.1)
 
 -- ---- programs
 

@@ -18,15 +18,17 @@ pub struct Declared {
     pub registers: Names,
 }
 
-/// The names between the parentheses.
+/// What a function declares, in parentheses.
 #[tactic(auto, unfolding(crate::specs::Reading::declared_at))]
 pub fn read_declared(alloc: Global, tokens: &mut Tokens<'_>) -> Result<Declared, ParseError>
     ensures reads { Gives result (left tokens.new) (declared_at (left tokens.old)) }
     ensures few { IfOk result (λ declared. length declared.registers ≤ 32) }
 {
+    let _paren = tokens.take();
     let count = count_items(*tokens)?;
     let names = read_names(alloc, tokens, 8, count, Names::new(alloc))?;
     let params = names.items().len() as u32;
     let registers = read_others(alloc, tokens, names)?;
+    let _paren = tokens.take();
     Ok(Declared { params, registers })
 }

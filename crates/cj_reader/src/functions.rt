@@ -81,9 +81,7 @@ fn read_function(
     let _fun = tokens.take();
     let token = tokens.take();
     let name = function_name(alloc, functions, earlier.len(), token)?;
-    let _paren = tokens.take();
     let Declared { params, registers } = read_declared(alloc, tokens)?;
-    let _paren = tokens.take();
     let _brace = tokens.take();
     let code = read_code(alloc, tokens, functions, registers.items())?;
     Ok(Function {
