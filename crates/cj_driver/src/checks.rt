@@ -74,7 +74,7 @@ fn written(alloc: Global, sink: &MemSink, finish: &Finish) -> Result<Vec<u8>, Fa
     Ok(written)
 }
 
-// The status of a call, and what is written for it.
+// The status of a call, and what is written for it, the line of the status behind it.
 pub(crate) fn answer(
     alloc: Global,
     words: &[&str],
@@ -97,7 +97,7 @@ fn answer_to(alloc: Global, words: &[&str], input: &[&str]) -> Result<(u8, Vec<u
     )
 }
 
-// Checks what is written for an input. It and the text are given in pieces.
+// Checks how a call with an input ends, and what is written for it. The input and the text are given in pieces.
 pub(crate) fn check(
     rt: &impl Abort,
     alloc: Global,

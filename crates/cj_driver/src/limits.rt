@@ -205,14 +205,14 @@ fn numbers_of_a_script(rt: HostRuntime) -> Result<(), Fail> {
     all_refused(&rt, alloc, MAIN, bad)
 }
 
-// Eight parameters, and one more.
+// Checks that eight parameters are accepted, and one more is refused.
 fn eight_parameters(rt: &impl Abort, alloc: Global, eight: &str) -> Result<(), Fail> {
     accepted(rt, alloc, &["fun f(", eight, ") { 1: return 0 } calls"])?;
     let more = ["fun f(", eight, ",\nx) { 1: return 0 } calls"];
     refused(rt, alloc, &more, "2: TooMany")
 }
 
-// As many registers as there may be, and one more, or a parameter.
+// Checks that so many registers are accepted, and one more, or a parameter, is refused.
 fn many_registers(rt: &impl Abort, alloc: Global, many: &str) -> Result<(), Fail> {
     accepted(rt, alloc, &["fun f(;", many, ") { 1: return 0 } calls"])?;
     let more = ["fun f(;", many, ",\nx) { 1: return 0 } calls"];
@@ -242,7 +242,7 @@ fn many_lines_and_functions(rt: HostRuntime) -> Result<(), Fail> {
     )
 }
 
-// Calls that are as many as there may be, or have as many turns, and one more.
+// Checks that one call more is refused.
 fn one_call_more(rt: &impl Abort, alloc: Global, calls: &str) -> Result<(), Fail> {
     refused(
         rt,

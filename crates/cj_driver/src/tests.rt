@@ -64,6 +64,84 @@ fun total(; x, y) {
 }
 ";
 
+// Programs, their calls, and what is written.
+const RUNS: &[(&str, &str, &str)] = &[
+    (INCREMENT, "call main 4 limit 100", "call 1\n5\nreturn 5\n"),
+    (
+        INCREMENT,
+        "call main 9223372036854775807 limit 100",
+        "call 1\n-9223372036854775808\nreturn -9223372036854775808\n",
+    ),
+    (
+        INCREMENT,
+        "call main 4 limit 3 call main 4 limit 2",
+        "call 1\n5\nreturn 5\ncall 2\n5\nturn limit\n",
+    ),
+    (
+        ZERO_DIVISOR,
+        "warm main 1 call main limit 10",
+        "call 1\nfault divide\n",
+    ),
+    (
+        LEAST_OVER_MINUS_ONE,
+        "call main -9223372036854775808 limit 10",
+        "call 1\n-9223372036854775808\nreturn 0\n",
+    ),
+    (
+        MEMORY_BOUNDS,
+        "call main 63 limit 10  call main 64 limit 10 call main -1 limit 10  call main 0 memory 0 limit 10",
+        "call 1\nreturn 9\ncall 2\nfault address 64\ncall 3\nfault address -1\ncall 4\nfault address 0\n",
+    ),
+    (
+        "fun main() { 1: fail \"stop here\" }",
+        "call main limit 1",
+        "call 1\nfail \"stop here\"\n",
+    ),
+    (
+        "fun main(n; r) { 1: cond n -> 2, 4 2: op r = n - 1 -> 3 3: call r = main(r) -> 4 4: return n }",
+        "call main 100 limit 1000",
+        "call 1\nreturn 100\n",
+    ),
+];
+
+// Inputs, each with the line and the kind of its first offence.
+const OFFENCES: &[(&str, &str)] = &[
+    ("", "1: Syntax"),
+    (
+        "fun main(a, b, c, d, e, f, g, h, i) { 1: return 0 } calls",
+        "1: TooMany",
+    ),
+    (
+        "fun main(n; r) {\n1: op r = n + 1 -> 2\n2: print q -> 3\n3: return r\n}\ncalls",
+        "3: NoRegister",
+    ),
+    (
+        "fun main(n; r) {\n1: op r = n + 1 -> 2\n2: print r -> 2\n2: return r\n}\ncalls",
+        "4: LabelTwice",
+    ),
+    (
+        "fun main(n; r) {\n1: op r = n + 1 -> 3\n3: print q -> 3\n3: return r\n}\ncalls",
+        "3: NoRegister",
+    ),
+    (
+        "fun main(n; r) {\n1: op r = n + 1 -> 3\n1: print q -> 3\n3: return r\n}\ncalls",
+        "3: LabelTwice",
+    ),
+    ("fun main() { 1: return 0 } calls\n? call", "2: Character"),
+    (
+        "fun main() { 1: return 9223372036854775808 } calls",
+        "1: Number",
+    ),
+    (
+        "fun main() { 1: return 0 } calls\ncall main limit 0",
+        "2: Range",
+    ),
+    (
+        "fun main() { 1: return 0 } calls\ncall other limit 1",
+        "2: NoFunction",
+    ),
+];
+
 // Checks what is written for each program with its calls.
 fn all_run(rt: &impl Abort, alloc: Global, cases: &[(&str, &str, &str)]) -> Result<(), Fail> {
     for &(program, calls, text) in cases {
@@ -81,48 +159,10 @@ fn all_run(rt: &impl Abort, alloc: Global, cases: &[(&str, &str, &str)]) -> Resu
 
 #[test]
 fn alone_writes_prints_and_ends(rt: HostRuntime) -> Result<(), Fail> {
-    let cases = &[
-        (INCREMENT, "call main 4 limit 100", "call 1\n5\nreturn 5\n"),
-        (
-            INCREMENT,
-            "call main 9223372036854775807 limit 100",
-            "call 1\n-9223372036854775808\nreturn -9223372036854775808\n",
-        ),
-        (
-            INCREMENT,
-            "call main 4 limit 3 call main 4 limit 2",
-            "call 1\n5\nreturn 5\ncall 2\n5\nturn limit\n",
-        ),
-        (
-            ZERO_DIVISOR,
-            "warm main 1 call main limit 10",
-            "call 1\nfault divide\n",
-        ),
-        (
-            LEAST_OVER_MINUS_ONE,
-            "call main -9223372036854775808 limit 10",
-            "call 1\n-9223372036854775808\nreturn 0\n",
-        ),
-        (
-            MEMORY_BOUNDS,
-            "call main 63 limit 10  call main 64 limit 10 call main -1 limit 10  call main 0 memory 0 limit 10",
-            "call 1\nreturn 9\ncall 2\nfault address 64\ncall 3\nfault address -1\ncall 4\nfault address 0\n",
-        ),
-        (
-            "fun main() { 1: fail \"stop here\" }",
-            "call main limit 1",
-            "call 1\nfail \"stop here\"\n",
-        ),
-        (
-            "fun main(n; r) { 1: cond n -> 2, 4 2: op r = n - 1 -> 3 3: call r = main(r) -> 4 4: return n }",
-            "call main 100 limit 1000",
-            "call 1\nreturn 100\n",
-        ),
-    ];
-    all_run(&rt, rt.alloc(), cases)
+    all_run(&rt, rt.alloc(), RUNS)
 }
 
-// What is written for the calls of the bank: the first two find too little on the account.
+// What is written for the calls of the bank. In the first two there is too little to pay from.
 fn paid(alloc: Global) -> Result<String, AllocError> {
     let mut text = String::from_str(alloc, "call 1\n0\nreturn 150\ncall 2\n0\nreturn 250\n")?;
     for k in 3..41_u32 {
@@ -158,43 +198,7 @@ fn format_writes_the_canonical_text(rt: HostRuntime) -> Result<(), Fail> {
 #[test]
 fn refusals_tell_line_and_kind(rt: HostRuntime) -> Result<(), Fail> {
     let alloc = rt.alloc();
-    let cases = &[
-        ("", "1: Syntax"),
-        (
-            "fun main(a, b, c, d, e, f, g, h, i) { 1: return 0 } calls",
-            "1: TooMany",
-        ),
-        (
-            "fun main(n; r) {\n1: op r = n + 1 -> 2\n2: print q -> 3\n3: return r\n}\ncalls",
-            "3: NoRegister",
-        ),
-        (
-            "fun main(n; r) {\n1: op r = n + 1 -> 2\n2: print r -> 2\n2: return r\n}\ncalls",
-            "4: LabelTwice",
-        ),
-        (
-            "fun main(n; r) {\n1: op r = n + 1 -> 3\n3: print q -> 3\n3: return r\n}\ncalls",
-            "3: NoRegister",
-        ),
-        (
-            "fun main(n; r) {\n1: op r = n + 1 -> 3\n1: print q -> 3\n3: return r\n}\ncalls",
-            "3: LabelTwice",
-        ),
-        ("fun main() { 1: return 0 } calls\n? call", "2: Character"),
-        (
-            "fun main() { 1: return 9223372036854775808 } calls",
-            "1: Number",
-        ),
-        (
-            "fun main() { 1: return 0 } calls\ncall main limit 0",
-            "2: Range",
-        ),
-        (
-            "fun main() { 1: return 0 } calls\ncall other limit 1",
-            "2: NoFunction",
-        ),
-    ];
-    all_refused(&rt, alloc, "", cases)?;
+    all_refused(&rt, alloc, "", OFFENCES)?;
     refused(
         &rt,
         alloc,
@@ -203,7 +207,7 @@ fn refusals_tell_line_and_kind(rt: HostRuntime) -> Result<(), Fail> {
     )
 }
 
-// Checks how the call of the increment ends whose read and whose write of these numbers fail.
+// Checks how a call of the increment ends, and what is written, where the read and the write of these numbers fail.
 fn stops(
     rt: &impl Abort,
     alloc: Global,

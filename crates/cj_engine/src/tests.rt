@@ -94,33 +94,33 @@ fn named(rt: &impl Abort, alloc: Global, name: &str) -> Result<Name, Fail> {
     Ok(Name::of(alloc, name.as_bytes())?.expect(rt, "a name"))
 }
 
+fn add_line(code: &mut Lines, name: u32, instr: Instr) -> Result<(), Fail> {
+    Ok(code.push(Line { name, instr })?)
+}
+
 // A load from the address in the one parameter, whose value is printed and returned.
 fn lines(alloc: Global) -> Result<Lines, Fail> {
     let mut code = Lines::new(alloc);
-    code.push(Line {
-        name: 1,
-        instr: load(1),
-    })?;
-    code.push(Line {
-        name: 2,
-        instr: print(Y, 2),
-    })?;
-    code.push(Line {
-        name: 3,
-        instr: Instr::Return { value: Y },
-    })?;
+    add_line(&mut code, 1, load(1))?;
+    add_line(&mut code, 2, print(Y, 2))?;
+    add_line(&mut code, 3, Instr::Return { value: Y })?;
     Ok(code)
 }
 
-fn program(rt: &impl Abort, alloc: Global) -> Result<Checked, Fail> {
+fn registers(rt: &impl Abort, alloc: Global) -> Result<Names, Fail> {
     let mut regs = Names::new(alloc);
-    regs.push(named(rt, alloc, "x")?)?;
-    regs.push(named(rt, alloc, "y")?)?;
+    for name in ["x", "y"] {
+        regs.push(named(rt, alloc, name)?)?;
+    }
+    Ok(regs)
+}
+
+fn program(rt: &impl Abort, alloc: Global) -> Result<Checked, Fail> {
     let mut functions = Functions::new(alloc);
     functions.push(Function {
         name: named(rt, alloc, "main")?,
         params: 1,
-        regs,
+        regs: registers(rt, alloc)?,
         code: lines(alloc)?,
     })?;
     Ok(check(Program { functions }).expect(rt, "a well-formed program"))
@@ -212,30 +212,76 @@ fn is_at(
         && engine.looks().items().len() == 1
 }
 
+// One turn, after which the run goes on, with these prints, and so many turns were made.
+fn goes_to(
+    rt: &impl Abort,
+    engine: &mut Engine<'_>,
+    limit: u32,
+    watch: &mut Bodies<'_>,
+    printed: &[i64],
+    turns: u64,
+) -> Result<(), Fail>
+    requires program { watch.old.checked.now ≡ engine.old.checked.now }
+    requires walks { Walks engine.old.checked.now engine.old.machine.looks limit (state_of engine.old.machine) }
+    ensures walks { IfOk result (λ done. Walks engine.new.checked.now engine.new.machine.looks limit (state_of engine.new.machine)) }
+    ensures program { IfOk result (λ done. watch.new.checked.now ≡ engine.new.checked.now) }
+{
+    assert!(rt; turned(rt, engine, limit, watch)?.is_none());
+    assert!(rt; is_at(engine, &[1, 9], printed, turns, true));
+    Ok(())
+}
+
+// The last turn, which returns that value.
+fn returns(
+    rt: &impl Abort,
+    engine: &mut Engine<'_>,
+    limit: u32,
+    watch: &mut Bodies<'_>,
+    want: i64,
+) -> Result<(), Fail>
+    requires program { watch.old.checked.now ≡ engine.old.checked.now }
+    requires walks { Walks engine.old.checked.now engine.old.machine.looks limit (state_of engine.old.machine) }
+{
+    let end = turned(rt, engine, limit, watch)?;
+    assert!(rt; matches!(end, Some(End::Returned(value)) if value == want));
+    Ok(())
+}
+
 // The turns of a load, a print and a return.
-fn walk(rt: &impl Abort, alloc: Global, checked: &Checked) -> Result<(), Fail> {
-    let call = call_of(alloc, 1, 9)?;
+fn three_turns(
+    rt: &impl Abort,
+    engine: &mut Engine<'_>,
+    limit: u32,
+    watch: &mut Bodies<'_>,
+) -> Result<(), Fail>
+    requires program { watch.old.checked.now ≡ engine.old.checked.now }
+    requires walks { Walks engine.old.checked.now engine.old.machine.looks limit (state_of engine.old.machine) }
+{
+    assert!(rt; is_at(engine, &[1, 0], &[], 0, true));
+    goes_to(rt, engine, limit, watch, &[], 1)?;
+    goes_to(rt, engine, limit, watch, &[9], 2)?;
+    returns(rt, engine, limit, watch, 9)?;
+    assert!(rt; is_at(engine, &[1, 9], &[9], 3, false));
+    assert!(rt; watch.trail.items().len() == 1);
+    Ok(())
+}
+
+// The run of a call of main.
+fn walk(rt: &impl Abort, alloc: Global, checked: &Checked, call: &ScriptCall) -> Result<(), Fail> {
     assert!(rt; takes(checked.program(), call.function, call.args.items().len()));
     assert!(rt; is_limit(call.limit));
     let mut watch = Bodies {
         checked,
         trail: Looks::new(alloc),
     };
-    let mut engine = started(alloc, checked, &call, &mut watch)?;
-    assert!(rt; is_at(&engine, &[1, 0], &[], 0, true));
-    assert!(rt; turned(rt, &mut engine, call.limit, &mut watch)?.is_none());
-    assert!(rt; is_at(&engine, &[1, 9], &[], 1, true));
-    assert!(rt; turned(rt, &mut engine, call.limit, &mut watch)?.is_none());
-    assert!(rt; is_at(&engine, &[1, 9], &[9], 2, true));
-    assert!(rt; turned(rt, &mut engine, call.limit, &mut watch)? == Some(End::Returned(9)));
-    assert!(rt; is_at(&engine, &[1, 9], &[9], 3, false));
-    assert!(rt; watch.trail.items().len() == 1);
-    Ok(())
+    let mut engine = started(alloc, checked, call, &mut watch)?;
+    three_turns(rt, &mut engine, call.limit, &mut watch)
 }
 
 #[test]
 fn the_turns_of_a_load_from_a_given_memory(rt: HostRuntime) -> Result<(), Fail> {
     let alloc = rt.alloc();
     let checked = program(&rt, alloc)?;
-    walk(&rt, alloc, &checked)
+    let call = call_of(alloc, 1, 9)?;
+    walk(&rt, alloc, &checked, &call)
 }
