@@ -2,7 +2,7 @@
 
 ghost use Rattle.std.specs.Prelude.{◌≡◌, [], IfOk};
 
-use super::inline;
+use super::{called_at, inline};
 use cj_draft::{Code, Draft, Pair, Skipped, VInstr};
 use cj_ir::{
     Checked, Expr, FunId, Function, Functions, Instr, Label, Line, Lines, Name, Names, Operand,
@@ -53,7 +53,7 @@ fn call(alloc: Global, function: u32, arg: u32, next: u32) -> Result<Instr, Fail
     })
 }
 
-// main(n; r): call r = acc(n) -> 2 · print r -> 3 · return r
+// main(n; r, s): call r = acc(n) -> 2 · print r -> 3 · return r
 fn main_lines(alloc: Global) -> Result<Lines, Fail> {
     let mut code = Lines::new(alloc);
     let value = reg(1);
@@ -102,7 +102,9 @@ fn function(rt: &impl Abort, alloc: Global, name: &str, code: Lines) -> Result<F
 
 fn program(rt: &impl Abort, alloc: Global) -> Result<Checked, Fail> {
     let mut functions = Functions::new(alloc);
-    functions.push(function(rt, alloc, "main", main_lines(alloc)?)?)?;
+    let mut main = function(rt, alloc, "main", main_lines(alloc)?)?;
+    main.regs.push(named(rt, alloc, "s")?)?;
+    functions.push(main)?;
     functions.push(function(rt, alloc, "acc", acc_lines(alloc)?)?)?;
     functions.push(function(rt, alloc, "down", down_lines(alloc)?)?)?;
     Ok(check(Program { functions }).expect(rt, "a well-formed program"))
@@ -129,15 +131,11 @@ fn moves(code: &Code, at: usize, set: &[Pair], to: u32) -> bool {
     }
 }
 
-// A move of the argument to register 2, and of 0 to register 3.
-fn enters(code: &Code, at: usize, arg: u32, next: u32) -> bool {
-    let set = [pair(2, reg(arg)), pair(3, Operand::Const(0))];
-    moves(code, at, &set, next)
-}
-
-// A move of register 3 to register 1.
-fn leaves(code: &Code, at: usize, next: u32) -> bool {
-    moves(code, at, &[pair(1, reg(3))], next)
+fn computes(code: &Code, at: usize, want: Expr) -> bool {
+    match code.places.items().get(at) {
+        Some(place) => matches!(&place.instr, VInstr::Op { expr, .. } if *expr == want),
+        None => false,
+    }
 }
 
 fn has_frames(code: &Code, at: usize, count: usize) -> bool {
@@ -173,6 +171,7 @@ fn made<'p>(
     ensures { IfOk result (λ made. made.program ≡ checked.now) }
 {
     let draft = base(rt, callee.code().places.allocator(), checked, caller)?;
+    assert_eq!(rt; called_at(&draft, Label(call)), Ok(callee.code().function));
     let (made, skipped) = inline(draft, Label(call), callee)?;
     assert_eq!(rt; skipped, None);
     Ok(made)
@@ -190,21 +189,24 @@ fn is_no_call<'p>(
     let label = Label(call);
     let (left, skipped) = inline(draft, label, callee)?;
     assert_eq!(rt; skipped, Some(Skipped::NotCall { label }));
-    assert!(rt; has_counts(left.code(), 4, 5));
+    assert!(rt; has_counts(left.code(), 5, 5));
     Ok(())
 }
 
 fn has_accumulator(rt: &impl Abort, code: &Code) {
-    assert!(rt; has_counts(code, 4, 5));
-    assert!(rt; enters(code, 0, 0, 3));
-    assert!(rt; leaves(code, 4, 1));
+    assert!(rt; has_counts(code, 5, 5));
+    let zero = Operand::Const(0);
+    assert!(rt; moves(code, 0, &[pair(3, reg(0)), pair(4, zero)], 3));
+    assert!(rt; moves(code, 4, &[pair(1, reg(4))], 1));
     assert!(rt; has_frames(code, 4, 2));
 }
 
 fn has_itself(rt: &impl Abort, code: &Code) {
     assert!(rt; has_counts(code, 4, 8));
-    assert!(rt; enters(code, 2, 1, 4));
-    assert!(rt; leaves(code, 7, 3));
+    let zero = Operand::Const(0);
+    assert!(rt; moves(code, 2, &[pair(2, reg(1)), pair(3, zero)], 4));
+    assert!(rt; computes(code, 5, Expr::Sub(reg(2), Operand::Const(1))));
+    assert!(rt; moves(code, 7, &[pair(1, reg(3))], 3));
 }
 
 #[test]

@@ -19,6 +19,18 @@ fn a_label_waits_once(rt: HostRuntime) -> Result<(), Fail> {
     Ok(())
 }
 
+#[test]
+fn labels_wait_in_the_order_in_which_they_came(rt: HostRuntime) -> Result<(), Fail> {
+    let mut list = Worklist::new(rt.alloc(), 2)?;
+    assert_eq!(&rt; list.put(Label(1)), true);
+    assert_eq!(&rt; list.put(Label(0)), true);
+    assert_eq!(&rt; list.take(), Some(Label(1)));
+    assert_eq!(&rt; list.put(Label(1)), true);
+    assert_eq!(&rt; list.take(), Some(Label(0)));
+    assert_eq!(&rt; list.take(), Some(Label(1)));
+    Ok(())
+}
+
 fn three(alloc: Global) -> Result<EdgeLists, Fail>
     ensures { IfOk result (λ lists. lists ≡ given 3 three_edges) }
 {
