@@ -2,7 +2,7 @@
 
 ghost use Rattle.std.specs.Prelude.{◌≡◌, ◌≤◌, [], length, IfOk};
 ghost use Rattle.cj_tokens.specs.Left.{left};
-ghost use Rattle.cj_grammar.specs.Reading.{Gives};
+ghost use Rattle.cj_grammar.specs.Readers.{Gives};
 ghost use Rattle.cj_events.specs.Reading.{begin_at, step_at, compile_at, event_at, is_event, events_at};
 ghost use Rattle.cj_events.specs.Tallies.{counted, IsWithin};
 
