@@ -4,7 +4,8 @@ ghost use Rattle.std.specs.Prelude.{◌≡◌, ◌<◌, ◌≤◌, IfOk, length,
 ghost use Rattle.cj_draft.specs.Edges.{led_to};
 ghost use Rattle.cj_anchor.specs.Lowering.{led_place};
 ghost use Rattle.cj_anchor.specs.Search.{IsClosed, IsTable, given};
-ghost use Rattle.cj_anchor.specs.AnchorInsertion.{anchor_offence, IsAnchored, IsAnchorStep, IsAnchorPlace, AreAnchored};
+ghost use Rattle.cj_anchor.specs.AnchorInsertion.{anchor_offence, IsAnchored, AreAnchored};
+ghost use Rattle.cj_anchor.specs.OneAnchor.{IsAnchorStep, IsAnchorPlace};
 
 use crate::edges::{given, led_place};
 use crate::lowering::reversed;
