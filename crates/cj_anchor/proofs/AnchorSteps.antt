@@ -12,7 +12,8 @@ use Rattle.cj_draft.specs.declared.passes.Skipped.TheVariants.{NoPlace}
 use Rattle.cj_draft.specs.Arrives.{place_at}
 use Rattle.cj_draft.specs.Sound.{Sound}
 use Rattle.cj_draft.specs.Skips.{told}
-use Rattle.cj_anchor.specs.AnchorInsertion.{offence_at, anchor_offence, anchored, IsAnchorStep, AreAnchored, Placed, Passed}
+use Rattle.cj_anchor.specs.AnchorInsertion.{offence_at, anchor_offence, anchored, AreAnchored, Placed, Passed}
+use Rattle.cj_anchor.specs.OneAnchor.{IsAnchorStep}
 use Rattle.cj_anchor.proofs.AnchorSound.{anchored_sound}
 
 pub no_offence_within : (code : Code) (l : Label) → anchor_offence code l ≡ None → l.0 < length code.places

@@ -1,5 +1,5 @@
 -- Anchors before labels.
-use Rattle.std.specs.Prelude.{◌≡◌, ℕ, ◌+◌, ◌⊎◌, List, [], ◌∷◌, ◌++◌, length, map, Option, Some, None}
+use Rattle.std.specs.Prelude.{◌≡◌, ℕ, ◌+◌, List, [], ◌∷◌, ◌++◌, length, map, Option, Some, None}
 use Rattle.cj_ir.specs.declared.language.Label.{Label}
 use Rattle.cj_draft.specs.declared.instructions.VInstr.TheVariants.{Anchor}
 use Rattle.cj_draft.specs.declared.code.Back.{Back}
@@ -60,17 +60,3 @@ pub data AreAnchored : ℕ → Code → List Label → Code → List (ℕ × Ski
   Passed : (index : ℕ) (code made : Code) (label : Label) (labels : List Label) (skipped : Skipped) (skips : List (ℕ × Skipped)) →
       anchor_offence code label ≡ Some skipped → AreAnchored (index + 1) code labels made skips →
       AreAnchored index code (label ∷ labels) made ((told index, skipped) ∷ skips)
-
--- ---- one label of the list
-
--- the code that a label's turn makes, and the skips before and after it
-abbrev pub IsAnchorStep : Code → ℕ → Label → Code → List (ℕ × Skipped) → List (ℕ × Skipped) → Type 0
-IsAnchorStep code index label made skips more =
-    ((anchor_offence code label ≡ None) × IsAnchored code label made × (more ≡ skips))
-    ⊎ ((skipped : Skipped) × (anchor_offence code label ≡ Some skipped) × (made ≡ code) × (more ≡ skips ++ (told index, skipped) ∷ []))
-
--- the place of a fresh Anchor
-pub record IsAnchorPlace (label : Label) (place fresh : Place) : Type 0 where
-  pub backs : List Back
-  pub with_own : AreWith place.backs (pair_of 0 place.point) backs
-  pub same : fresh ≡ anchor_place label place backs

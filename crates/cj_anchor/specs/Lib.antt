@@ -1,1 +1,2 @@
 pub mod AnchorInsertion
+pub mod OneAnchor

@@ -4,7 +4,8 @@ ghost use Rattle.std.specs.Prelude.{◌≡◌, ◌<◌, ◌≤◌, IfOk, length,
 ghost use Rattle.cj_draft.specs.Edges.{led_to};
 ghost use Rattle.cj_rows.specs.Edges.{led_place, IsClosed};
 ghost use Rattle.cj_rows.specs.Tables.{IsTable, given};
-ghost use Rattle.cj_anchor.specs.AnchorInsertion.{anchor_offence, IsAnchored, IsAnchorStep, IsAnchorPlace, AreAnchored};
+ghost use Rattle.cj_anchor.specs.AnchorInsertion.{anchor_offence, IsAnchored, AreAnchored};
+ghost use Rattle.cj_anchor.specs.OneAnchor.{IsAnchorStep, IsAnchorPlace};
 
 use cj_draft::{Code, Draft, Place, Places, Skipped, Skips, VInstr, led_to, told};
 use cj_ir::{Duplicate, Label, Labels, NoMemory};

@@ -7,8 +7,8 @@ use Rattle.std.specs.Ordering.{int_eq}
 use Rattle.std.proofs.lemmas.List.Elements.{All-nil, All-cons, All-head, All-tail}
 use Rattle.std.proofs.lemmas.List.{length-set, length-replicate, length-map, reverse-reverse}
 use Rattle.cj_ir.specs.Values.{operand_value, expr_value}
-use Rattle.cj_ir.specs.WellFormed.{IsWellFormed, IsFunctionFine, IsInstrFine, Takes}
-use Rattle.cj_ir.specs.Program.{function_at, instr_at, regs_of, labels_of, reg_count, label_count, IsFineIn}
+use Rattle.cj_ir.specs.WellFormed.{IsWellFormed, IsFunctionFine, IsInstrFine, IsFineIn, Takes}
+use Rattle.cj_ir.specs.Program.{function_at, instr_at, regs_of, labels_of, reg_count, label_count}
 use Rattle.cj_ir.specs.declared.memory.NoMemory.{NoMemory}
 use Rattle.cj_ir.specs.declared.language.FunId.{FunId}
 use Rattle.cj_ir.specs.declared.language.Label.{Label}

@@ -3,7 +3,7 @@ use Rattle.std.proofs.Common.{◌≡◌, ℕ, ◌<◌, ◌^◌, List, [], ◌∷
 use Rattle.std.specs.Prelude.{ℤ, Some}
 use Rattle.std.specs.Int.{cast_signed, cast_unsigned, w64}
 use Rattle.std.proofs.lemmas.Int.{ints, to_z-of_z, of_z-to_z}
-use Rattle.cj_ir.specs.Values.{IsOperandWithin, IsExprWithin}
+use Rattle.cj_ir.specs.Values.{value_word, IsOperandWithin, IsExprWithin}
 use Rattle.cj_ir.specs.declared.language.FunId.{FunId}
 use Rattle.cj_ir.specs.declared.language.Label.{Label}
 use Rattle.cj_ir.specs.declared.language.Reg.{Reg}
@@ -15,7 +15,7 @@ use Rattle.cj_ir.specs.declared.language.Guard.{Guard}
 use Rattle.cj_ir.specs.declared.language.Guard.TheVariants.{Is, Never}
 use Rattle.cj_draft.specs.WellNamed.{IsGuardWithin}
 use Rattle.cj_codec.specs.declared.reader.Limits.{Limits}
-use Rattle.cj_spelling.specs.Spelling.{value_word, operand_words, two_operands, expr_words, guard_words}
+use Rattle.cj_spelling.specs.Spelling.{operand_words, two_operands, expr_words, guard_words}
 use Rattle.cj_spelling.specs.Values.{IsValue, HasOperandValue, HasExprValues, HasGuardValue}
 use Rattle.cj_spelling.specs.Formats.{made, below_at}
 use Rattle.cj_codec.specs.Reading.{function_of, label_of, reg_of, function_at, label_at, base_label_at, reg_at, base_reg_at, value_at, operand_by, operand_at, operands_at, one_operand, two_operands_at, expr_by, expr_at, guard_by, guard_at}

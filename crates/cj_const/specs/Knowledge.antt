@@ -1,8 +1,7 @@
 -- What is known of registers, and what follows for operands and expressions.
 use Rattle.std.specs.Prelude.{ℕ, zero, suc, ◌==◌, List, [], ◌∷◌, ◌++◌, Option, Some, None, Bool, true, false, ℤ, if◌then◌else◌, slice_index_or}
 use Rattle.std.specs.List.{list_all}
-use Rattle.cj_ir.specs.Values.{expr_value}
-use Rattle.cj_ir.specs.Verdicts.{expr_operands}
+use Rattle.cj_ir.specs.Values.{expr_value, expr_operands}
 use Rattle.cj_ir.specs.declared.language.Operand.{Operand}
 use Rattle.cj_ir.specs.declared.language.Operand.TheVariants as operand
 use Rattle.cj_ir.specs.declared.language.Expr.{Expr}

@@ -69,7 +69,7 @@ places_at f n label lines =
 
 -- at each label stands the place of its base instruction
 pub base_place_at : (P : Program) (f : FunId) (label : Label) → place_at (base_code P f) label ≡ option_map (base_place f (reg_count P f) label) (instr_at P f label)
-unfolding base_code lines_of base_places
+unfolding base_code base_places
 base_place_at P f label = by_function (function_at P f)
   where
     by_function : (o : Option Function) → slice_get (base_places f (reg_count P f) (lines_of o)) label.0 ≡ option_map (base_place f (reg_count P f) label) (option_map (λ line. line.instr) (option_and_then (λ g. slice_get g.code label.0) o))
@@ -82,7 +82,7 @@ length-base_places f n lines =
     length-map (enumerate_from 0 lines) (numbered_place f n) ∙ length-enumerate_from 0 lines
 
 pub length-base_code : (P : Program) (f : FunId) → length (base_code P f).places ≡ label_count P f
-unfolding base_code lines_of
+unfolding base_code
 length-base_code P f = length-base_places f (reg_count P f) (lines_of (function_at P f)) ∙ by_function (function_at P f)
   where
     by_function : (o : Option Function) → length (lines_of o) ≡ labels_of o
@@ -132,5 +132,5 @@ base_places_more f n lines i d h =
     ∙ ap (λ k. map (numbered_place f n) (enumerate_from 0 before) ++ base_place f n (record { 0 = k }) line.instr ∷ []) e
 
 pub base_code_of : (P : Program) (f : FunId) (g : Function) → function_at P f ≡ Some g → base_code P f ≡ record { function = f; regs = length g.regs; entry = record { 0 = 0 }; places = base_places f (length g.regs) g.code }
-unfolding base_code lines_of
+unfolding base_code
 base_code_of P f g e = ap (λ o. record { function = f; regs = regs_of o; entry = record { 0 = 0 }; places = base_places f (regs_of o) (lines_of o) }) e

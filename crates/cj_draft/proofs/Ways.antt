@@ -22,7 +22,8 @@ use Rattle.cj_draft.specs.Points.{frames_of}
 use Rattle.cj_draft.specs.Effects.{VersionEffect, Plain, Guarded, version_effect}
 use Rattle.cj_draft.specs.Arrives.{Arrives, instr_of, IsAtCall, after_call}
 use Rattle.cj_draft.specs.Sound.{pair_of, IsOwn, IsSilentIn, IsCarried, StepsOn, Resumes, StepsIn, StepsGuarded, SoundEffect}
-use Rattle.cj_draft.specs.Relabel.{relabel, relabel_plain, relabel_effect}
+use Rattle.cj_draft.specs.Relabel.{relabel}
+use Rattle.cj_draft.specs.RelabelEffects.{relabel_plain, relabel_effect}
 
 -- ---- the effect of a relabelled instruction
 

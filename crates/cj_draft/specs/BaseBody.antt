@@ -49,7 +49,7 @@ base_place f count label instr =
       backs = [];
     }
 
-unfoldable pub lines_of : Option Function → List Line
+abbrev pub lines_of : Option Function → List Line
 lines_of None = []
 lines_of (Some g) = g.code
 

@@ -6,6 +6,7 @@ pub mod WellNamed
 pub mod Arrives
 pub mod Sound
 pub mod Relabel
+pub mod RelabelEffects
 pub mod BaseBody
 pub mod Bodies
 pub mod Skips

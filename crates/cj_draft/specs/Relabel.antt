@@ -1,9 +1,7 @@
 -- Instructions whose edges are led to other labels.
 use Rattle.cj_ir.specs.declared.language.Label.{Label}
-use Rattle.cj_base.specs.Machine.{Effect, On, Calls, Returns, Faults}
 use Rattle.cj_draft.specs.declared.instructions.VInstr.{VInstr}
 use Rattle.cj_draft.specs.declared.instructions.VInstr.TheVariants.{Nop, Op, Move, Cond, Call, Return, Print, Load, Store, Fail, Assume, Anchor}
-use Rattle.cj_draft.specs.Effects.{VersionEffect, Plain, Guarded}
 
 -- each next label becomes the one that `r` gives for it
 unfoldable pub relabel : (Label → Label) → VInstr → VInstr
@@ -19,13 +17,3 @@ relabel r (Store address value next) = Store address value (r next)
 relabel r (Fail f label) = Fail f label
 relabel r (Assume guards back target next) = Assume guards back target (r next)
 relabel r (Anchor back target next) = Anchor back target (r next)
-
-unfoldable pub relabel_plain : (Label → Label) → Effect → Effect
-relabel_plain r (On next regs m printed) = On (r next) regs m printed
-relabel_plain r (Calls dest f args next) = Calls dest f args (r next)
-relabel_plain r (Returns value) = Returns value
-relabel_plain r (Faults fault) = Faults fault
-
-unfoldable pub relabel_effect : (Label → Label) → VersionEffect → VersionEffect
-relabel_effect r (Plain effect) = Plain (relabel_plain r effect)
-relabel_effect r (Guarded holds back target next) = Guarded holds back target (r next)

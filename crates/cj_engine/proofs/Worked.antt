@@ -28,7 +28,7 @@ use Rattle.cj_draft.specs.declared.code.Place.{Place}
 use Rattle.cj_draft.specs.declared.code.Code.{Code}
 use Rattle.cj_draft.specs.Points.{frame_regs, top_of, waiting_of, stack_of, frames_of}
 use Rattle.cj_draft.specs.Effects.{guard_holds, guards_hold, moved, version_effect}
-use Rattle.cj_draft.specs.BaseBody.{as_version, identity, base_point, base_place, lines_of, base_places, base_code}
+use Rattle.cj_draft.specs.BaseBody.{as_version, identity, base_point, base_place, base_places, base_code}
 use Rattle.cj_calls.specs.declared.report.Look.{Look}
 use Rattle.cj_calls.specs.declared.report.Note.{Note}
 use Rattle.cj_calls.specs.declared.report.Report.{Report}
@@ -176,10 +176,10 @@ bodies : Codes
 bodies f offset = Some (base_code nested f)
 
 versions_call_versions : told (version_report nested bodies (look 0 2 ∷ look 1 3 ∷ look 2 0 ∷ []) (call_of (pos 5 ∷ []))) ≡ Some (pos 5 ∷ [], Returned (wrap (pos 6)), 7, 7, 0)
-unfolding version_report report_at if_used report_of version_run one_turn_more version_start begins_in first_state version_turn turn_of turn_in_version turn_in_base version_turn_by rebuilt keep_note passed turn_by returns_to resumed_at resumed_by enters counted entered offset_told entered_at version_entry paused moved_to place_in guard_holds guards_hold moved version_effect frame_regs top_of waiting_of stack_of frames_of with_value branch op_effect effect end_of entry_regs entry_frame waits resumed as_version identity base_point base_place lines_of base_places base_code fun label reg r lines function place frame call_of look told nested bodies
+unfolding version_report report_at if_used report_of version_run one_turn_more version_start begins_in first_state version_turn turn_of turn_in_version turn_in_base version_turn_by rebuilt keep_note passed turn_by returns_to resumed_at resumed_by enters counted entered offset_told entered_at version_entry paused moved_to place_in guard_holds guards_hold moved version_effect frame_regs top_of waiting_of stack_of frames_of with_value branch op_effect effect end_of entry_regs entry_frame waits resumed as_version identity base_point base_place base_places base_code fun label reg r lines function place frame call_of look told nested bodies
 versions_call_versions = refl
 
 -- over a trail that is too long there is no report
 unused_looks : told (version_report nested bodies (look 0 2 ∷ look 1 3 ∷ look 2 0 ∷ look 2 0 ∷ []) (call_of (pos 5 ∷ []))) ≡ None
-unfolding version_report report_at if_used report_of version_run one_turn_more version_start begins_in first_state version_turn turn_of turn_in_version turn_in_base version_turn_by rebuilt keep_note passed turn_by returns_to resumed_at resumed_by enters counted entered offset_told entered_at version_entry paused moved_to place_in guard_holds guards_hold moved version_effect frame_regs top_of waiting_of stack_of frames_of with_value branch op_effect effect end_of entry_regs entry_frame waits resumed as_version identity base_point base_place lines_of base_places base_code fun label reg r lines function place frame call_of look told nested bodies
+unfolding version_report report_at if_used report_of version_run one_turn_more version_start begins_in first_state version_turn turn_of turn_in_version turn_in_base version_turn_by rebuilt keep_note passed turn_by returns_to resumed_at resumed_by enters counted entered offset_told entered_at version_entry paused moved_to place_in guard_holds guards_hold moved version_effect frame_regs top_of waiting_of stack_of frames_of with_value branch op_effect effect end_of entry_regs entry_frame waits resumed as_version identity base_point base_place base_places base_code fun label reg r lines function place frame call_of look told nested bodies
 unused_looks = refl

@@ -69,9 +69,3 @@ report_at trail Undefined = None
 -- the report of a call over a trail, which has to be used whole
 unfoldable pub version_report : Program → Codes → List Look → Begun → Option Report
 version_report P codes trail call = report_at trail (version_run P codes trail call call.limit)
-
--- the state of a run that is defined, with its memory
-unfoldable pub state_at : Progress → Option State
-state_at (Continues s) = Some s
-state_at (Finishes end s) = Some s
-state_at Undefined = None

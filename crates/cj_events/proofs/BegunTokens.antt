@@ -2,7 +2,8 @@
 use Rattle.std.proofs.Common.{◌≡◌, ℕ, ◌+◌, ◌<◌, pos, List, [], ◌∷◌, length, refl, ap, ◌∙◌, arith}
 use Rattle.cj_ir.specs.declared.language.Function.{Function}
 use Rattle.cj_ir.specs.declared.script.ScriptCall.{ScriptCall}
-use Rattle.cj_tokens.specs.Lexemes.{Lexeme, front, behind}
+use Rattle.cj_tokens.specs.Lexemes.{Lexeme}
+use Rattle.cj_tokens.specs.Passing.{front, behind}
 use Rattle.cj_tokens.specs.declared.terminal.Terminal.TheVariants.{Call}
 use Rattle.cj_script.specs.Reading.{begun_at, call_at}
 use Rattle.cj_script.proofs.CallTurns.{call_shorter}

@@ -3,11 +3,12 @@ use Rattle.std.proofs.Common.{◌≡◌, pos, true, false, List, [], ◌∷◌, 
 use Rattle.std.specs.Prelude.{nat_le, unsigned_abs}
 use Rattle.cj_ir.specs.declared.language.Function.{Function}
 use Rattle.cj_ir.specs.declared.language.Program.{Program}
-use Rattle.cj_tokens.specs.Lexemes.{Lexeme, front, behind, is_terminal}
+use Rattle.cj_tokens.specs.Lexemes.{Lexeme, is_terminal}
+use Rattle.cj_tokens.specs.Passing.{front, behind}
 use Rattle.cj_tokens.specs.declared.refusal.Kind.TheVariants.{TooMany}
 use Rattle.cj_tokens.specs.declared.terminal.Terminal.TheVariants as terminal
 use Rattle.cj_grammar.specs.Grammar.{Tree, leaves}
-use Rattle.cj_grammar.specs.Reading.{reads}
+use Rattle.cj_grammar.specs.Readers.{reads}
 use Rattle.cj_grammar.proofs.ReadsLaws.{reads_last}
 use Rattle.cj_script.specs.Meaning.{function_offences, id_named, begun_offences, begun_of}
 use Rattle.cj_script.proofs.BegunReads.{judged_then, judged_last, other_terminal, begun_reads}

@@ -26,7 +26,8 @@ use Rattle.cj_events.specs.declared.events.Event.{Event}
 use Rattle.cj_events.specs.Fitting.{FitsLabel, FitsLabels, FitsGuard, FitsGuards, FitsPass, FitsEvent, EachFits, FitsEvents}
 use Rattle.cj_events.specs.Meaning.{label_of, label_offences, listed_offences, labels_offences, labels_of, ninth_offences, guard_offences, guard_of, guards_offences, guards_of, pass_word_offences, anchors_offences, anchors_of, assume_offences, assume_of, delay_offences, delay_of, const_offences, const_of, inline_offences, inline_of, pass_offences, pass_of, passes_offences, passes_of, event_word_offences, run_offences, count_offences, begin_offences, begin_of, step_offences, step_of, compile_offences, compile_of, event_offences, event_of, events_offences, events_of, history_offences, history_of}
 use Rattle.cj_events.specs.Rules.{labels, equation, guard, more_guards, guards, anchors_pass, assume_pass, delay_pass, const_pass, inline_pass, any_pass, passes, begin_event, step_event, compile_event, event, events, history}
-use Rattle.cj_events.specs.Tallies.{runs, limits, counts, compiles, tally_of, counted, IsWithin}
+use Rattle.cj_events.specs.Tallies.{runs, limits, counts, compiles, tally_of, IsWithin}
+use Rattle.cj_events.specs.OneEvent.{counted}
 use Rattle.cj_events.proofs.Tallied.{tally_more}
 
 -- ---- lists

@@ -1,7 +1,8 @@
 -- The reader of labels, turn by turn.
 use Rattle.std.proofs.Common.{◌≡◌, ℕ, ◌<◌, ◌≤◌, true, false, List, [], ◌∷◌, ◌++◌, length, Ok, Err, refl, arith}
 use Rattle.cj_ir.specs.declared.language.Label.{Label}
-use Rattle.cj_tokens.specs.Lexemes.{Lexeme, front, behind}
+use Rattle.cj_tokens.specs.Lexemes.{Lexeme}
+use Rattle.cj_tokens.specs.Passing.{front, behind}
 use Rattle.cj_tokens.specs.declared.refusal.Refused.{Refused}
 use Rattle.cj_tokens.specs.declared.terminal.Terminal.TheVariants as terminal
 use Rattle.cj_script.proofs.Turns.{behind_within, Within, ok_within, judged_within, behind_shorter, all_stops, all_fails, all_goes}

@@ -5,7 +5,8 @@ use Rattle.std.proofs.lemmas.List.{append-nil}
 use Rattle.cj_tokens.specs.Lexemes.{Lexeme}
 use Rattle.cj_tokens.specs.declared.refusal.Kind.{Kind}
 use Rattle.cj_tokens.specs.declared.refusal.Refused.{Refused}
-use Rattle.cj_grammar.specs.Reading.{Read, reads, each_offends, offends_if, offence}
+use Rattle.cj_grammar.specs.Reading.{each_offends, offends_if, offence}
+use Rattle.cj_grammar.specs.Readers.{Read, reads}
 use Rattle.cj_script.specs.Reading.{all_at}
 use Rattle.cj_script.proofs.Turns.{all_stops, all_fails, all_goes}
 

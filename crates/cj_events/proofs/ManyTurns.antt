@@ -1,7 +1,7 @@
 -- Items that are read one after another leave no more tokens than there were, where none of them does.
 use Rattle.std.proofs.Common.{ℕ, zero, suc, ◌≤◌, Bool, List, [], ◌∷◌, ◌++◌, length, arith}
 use Rattle.cj_tokens.specs.Lexemes.{Lexeme}
-use Rattle.cj_grammar.specs.Reading.{Read}
+use Rattle.cj_grammar.specs.Readers.{Read}
 use Rattle.cj_script.specs.Reading.{many_at, all_at}
 use Rattle.cj_script.proofs.Turns.{Within, ok_within, then_within, cond_within}
 

@@ -6,12 +6,14 @@ use Rattle.cj_ir.specs.declared.language.Guard.TheVariants as guards
 use Rattle.cj_ir.specs.declared.language.Label.{Label}
 use Rattle.cj_draft.specs.declared.passes.Pass.{Pass}
 use Rattle.cj_draft.specs.declared.passes.Pass.TheVariants as passes
-use Rattle.cj_tokens.specs.Lexemes.{Lexeme, Is, front, behind, is_terminal}
+use Rattle.cj_tokens.specs.Lexemes.{Lexeme, Is, is_terminal}
+use Rattle.cj_tokens.specs.Passing.{front, behind}
 use Rattle.cj_tokens.specs.declared.refusal.Kind.TheVariants.{TooMany}
 use Rattle.cj_tokens.specs.declared.refusal.Refused.{Refused}
 use Rattle.cj_tokens.specs.declared.terminal.Terminal.TheVariants as terminal
 use Rattle.cj_grammar.specs.Grammar.{Tree, Leaf, leaves}
-use Rattle.cj_grammar.specs.Reading.{reads, each_offends}
+use Rattle.cj_grammar.specs.Reading.{each_offends}
+use Rattle.cj_grammar.specs.Readers.{reads}
 use Rattle.cj_grammar.specs.Rules.{one, ◌▸◌, numbers}
 use Rattle.cj_grammar.proofs.ReadsLaws.{reads_then, reads_last}
 use Rattle.cj_script.proofs.BegunReads.{judged_then, judged_last, other_terminal}

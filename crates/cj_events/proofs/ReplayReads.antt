@@ -1,7 +1,8 @@
 -- From the readers of functions and events to replays.
 use Rattle.std.proofs.Common.{◌≡◌, refl, ℕ, false, List, [], ◌++◌, Result, Ok, Err}
 use Rattle.cj_ir.specs.declared.language.Program.{Program}
-use Rattle.cj_tokens.specs.Lexemes.{Lexeme, Is, front, is_terminal}
+use Rattle.cj_tokens.specs.Lexemes.{Lexeme, Is, is_terminal}
+use Rattle.cj_tokens.specs.Passing.{front}
 use Rattle.cj_tokens.specs.Scan.{lexemes_of}
 use Rattle.cj_tokens.specs.declared.terminal.Terminal.TheVariants.{Fun, Events}
 use Rattle.cj_tokens.specs.declared.refusal.Refused as refusal

@@ -1,8 +1,10 @@
 -- What the reader over whole replays leaves, in the grammar's words.
 use Rattle.std.proofs.Common.{◌≡◌, List, Ok, Err, refl}
 use Rattle.cj_tokens.specs.Ends.{HasOneEnd}
-use Rattle.cj_tokens.specs.Lexemes.{Lexeme, front}
-use Rattle.cj_grammar.specs.Grammar.{IsSentence, eat}
+use Rattle.cj_tokens.specs.Lexemes.{Lexeme}
+use Rattle.cj_tokens.specs.Passing.{front}
+use Rattle.cj_grammar.specs.Grammar.{IsSentence}
+use Rattle.cj_grammar.specs.OneAhead.{eat}
 use Rattle.cj_grammar.specs.Reading.{offence}
 use Rattle.cj_grammar.specs.Rules.{operand, more_operands, operands, more_names, names, binary, expr, target, nop_instr, op_instr, cond_instr, call_instr, return_instr, print_instr, load_instr, store_instr, fail_instr, instr, line, lines, head, fun, more_funs, funs, numbers, begun}
 use Rattle.cj_grammar.specs.Offences.{class_one, IsFirstOffence}

@@ -3,7 +3,8 @@ use Rattle.std.proofs.Common.{◌≡◌, ℕ, ◌+◌, List, [], ◌∷◌, ◌+
 use Rattle.std.proofs.lemmas.List.Sums.{sum_by_push}
 use Rattle.cj_events.specs.declared.events.Event.{Event}
 use Rattle.cj_events.specs.declared.events.Event.TheVariants.{Begin, Step, Compile}
-use Rattle.cj_events.specs.Tallies.{begun_by, limit_by, count_by, compiled_by, runs, limits, counts, compiles, tally_of, counted}
+use Rattle.cj_events.specs.Tallies.{begun_by, limit_by, count_by, compiled_by, runs, limits, counts, compiles, tally_of}
+use Rattle.cj_events.specs.OneEvent.{counted}
 
 none_more : (n : ℕ) → n + 0 ≡ n
 none_more n = omega arith

@@ -1,5 +1,6 @@
 pub mod Rules
 pub mod Tallies
+pub mod OneEvent
 pub mod Meaning
 pub mod Fitting
 pub mod Reading

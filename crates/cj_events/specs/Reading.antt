@@ -6,11 +6,13 @@ use Rattle.cj_ir.specs.declared.language.Guard.TheVariants.{Is, Never}
 use Rattle.cj_ir.specs.declared.language.Label.{Label}
 use Rattle.cj_draft.specs.declared.passes.Pass.{Pass}
 use Rattle.cj_draft.specs.declared.passes.Pass.TheVariants as pass
-use Rattle.cj_tokens.specs.Lexemes.{Lexeme, is_terminal, front, behind}
+use Rattle.cj_tokens.specs.Lexemes.{Lexeme, is_terminal}
+use Rattle.cj_tokens.specs.Passing.{front, behind}
 use Rattle.cj_tokens.specs.declared.refusal.Kind.TheVariants.{TooMany}
 use Rattle.cj_tokens.specs.declared.terminal.Terminal.TheVariants as terminal
-use Rattle.cj_grammar.specs.Grammar.{◌>>=◌}
-use Rattle.cj_grammar.specs.Reading.{Read, offence}
+use Rattle.cj_grammar.specs.OneAhead.{◌>>=◌}
+use Rattle.cj_grammar.specs.Reading.{offence}
+use Rattle.cj_grammar.specs.Readers.{Read}
 use Rattle.cj_script.specs.Meaning.{function_offences, id_named}
 use Rattle.cj_script.specs.Reading.{judged, all_at, begun_at}
 use Rattle.cj_events.specs.declared.events.Event.{Event}

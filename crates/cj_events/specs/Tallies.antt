@@ -1,5 +1,5 @@
 -- What events come to: runs, limits, step counts and compilations.
-use Rattle.std.specs.Prelude.{ℕ, ◌+◌, ◌≤◌, List}
+use Rattle.std.specs.Prelude.{ℕ, ◌≤◌, List}
 use Rattle.std.specs.List.{sum_by}
 use Rattle.cj_events.specs.declared.events.Event.{Event}
 use Rattle.cj_events.specs.declared.events.Event.TheVariants.{Begin, Step, Compile}
@@ -44,12 +44,6 @@ compiles events = sum_by compiled_by events
 unfoldable pub tally_of : List Event → Tally
 tally_of events =
     record { runs = runs events; limits = limits events; counts = counts events; compiles = compiles events }
-
--- one event more
-unfoldable pub counted : Tally → Event → Tally
-counted tally (Begin call) = record tally { runs = tally.runs + 1; limits = tally.limits + call.limit }
-counted tally (Step run count) = record tally { counts = tally.counts + count }
-counted tally (Compile function passes) = record tally { compiles = tally.compiles + 1 }
 
 -- the limits of a replay
 pub record IsWithin (tally : Tally) : Type 0 where

@@ -4,7 +4,8 @@ ghost use Rattle.std.specs.Prelude.{◌≡◌, OnOk, IfErr};
 ghost use Rattle.cj_tokens.specs.Ends.{HasOneEnd};
 ghost use Rattle.cj_tokens.specs.Left.{left};
 ghost use Rattle.cj_tokens.specs.Passing.{ended};
-ghost use Rattle.cj_grammar.specs.Grammar.{eat, starts, IsSentence};
+ghost use Rattle.cj_grammar.specs.Grammar.{IsSentence};
+ghost use Rattle.cj_grammar.specs.OneAhead.{eat, starts};
 ghost use Rattle.cj_grammar.specs.Offences.{IsFirstOffence};
 ghost use Rattle.cj_events.specs.Rules.{begin_event, step_event, compile_event, event, events, history, replay};
 

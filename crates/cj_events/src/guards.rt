@@ -2,7 +2,7 @@
 
 ghost use Rattle.std.specs.Prelude.{◌≡◌, ◌∷◌, []};
 ghost use Rattle.cj_tokens.specs.Left.{left};
-ghost use Rattle.cj_grammar.specs.Reading.{Gives};
+ghost use Rattle.cj_grammar.specs.Readers.{Gives};
 ghost use Rattle.cj_events.specs.Reading.{never_at, equation_at, guard_at, more_guards_at, guards_at};
 
 use crate::judge::{guarded_register, never_guard};

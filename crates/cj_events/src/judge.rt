@@ -2,7 +2,7 @@
 
 ghost use Rattle.std.specs.Prelude.{◌+◌, ◌≤◌, pos, unsigned_abs, IfOk};
 ghost use Rattle.cj_tokens.specs.Seen.{seen};
-ghost use Rattle.cj_grammar.specs.Reading.{Found};
+ghost use Rattle.cj_grammar.specs.Readers.{Found};
 ghost use Rattle.cj_script.specs.Meaning.{out_of_range};
 ghost use Rattle.cj_script.specs.Reading.{judged};
 ghost use Rattle.cj_ir.specs.declared.language.Guard.TheVariants.{Never};

@@ -2,7 +2,7 @@
 
 ghost use Rattle.std.specs.Prelude.{[]};
 ghost use Rattle.cj_tokens.specs.Left.{left};
-ghost use Rattle.cj_grammar.specs.Reading.{Gives};
+ghost use Rattle.cj_grammar.specs.Readers.{Gives};
 ghost use Rattle.cj_events.specs.Reading.{label_at, labels_at};
 
 use crate::judge::listed_label;

@@ -4,7 +4,7 @@ ghost use Rattle.std.specs.Prelude.{◌≡◌};
 ghost use Rattle.cj_tokens.specs.Left.{left};
 ghost use Rattle.cj_tokens.specs.Passing.{ended};
 ghost use Rattle.cj_tokens.specs.declared.terminal.Terminal.TheVariants.{Comma};
-ghost use Rattle.cj_grammar.specs.Grammar.{eat, starts};
+ghost use Rattle.cj_grammar.specs.OneAhead.{eat, starts};
 ghost use Rattle.cj_grammar.specs.Rules.{one, ◌▸◌};
 ghost use Rattle.cj_events.specs.Rules.{labels, equation, guard, guards, anchors_pass, assume_pass, delay_pass, const_pass, inline_pass, any_pass, passes};
 

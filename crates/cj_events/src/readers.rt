@@ -2,9 +2,10 @@
 
 ghost use Rattle.std.specs.Prelude.{◌≡◌, ◌≤◌, [], length, IfOk};
 ghost use Rattle.cj_tokens.specs.Left.{left};
-ghost use Rattle.cj_grammar.specs.Reading.{Gives};
+ghost use Rattle.cj_grammar.specs.Readers.{Gives};
 ghost use Rattle.cj_events.specs.Reading.{begin_at, step_at, compile_at, event_at, is_event, events_at};
-ghost use Rattle.cj_events.specs.Tallies.{counted, IsWithin};
+ghost use Rattle.cj_events.specs.Tallies.{IsWithin};
+ghost use Rattle.cj_events.specs.OneEvent.{counted};
 
 use crate::events::{Event, Events};
 use crate::judge::{run_number, step_count};
@@ -17,7 +18,7 @@ use cj_tokens::{Kind, ParseError, Terminal, Tokens};
 use std::alloc::Global;
 
 /// The beginning of a run.
-#[tactic(auto, unfolding(crate::specs::Reading::begin_at, crate::specs::Tallies::counted))]
+#[tactic(auto, unfolding(crate::specs::Reading::begin_at, crate::specs::OneEvent::counted))]
 fn read_begin(
     alloc: Global,
     tokens: &mut Tokens<'_>,
@@ -38,7 +39,7 @@ fn read_begin(
 }
 
 /// Steps of a run that has begun.
-#[tactic(auto, unfolding(crate::specs::Reading::step_at, crate::specs::Tallies::counted))]
+#[tactic(auto, unfolding(crate::specs::Reading::step_at, crate::specs::OneEvent::counted))]
 fn read_step(tokens: &mut Tokens<'_>, tally: Tally) -> Result<Event, ParseError>
     requires within { IsWithin tally }
     ensures gives { Gives result (left tokens.new) (step_at tally (left tokens.old)) }
@@ -53,7 +54,7 @@ fn read_step(tokens: &mut Tokens<'_>, tally: Tally) -> Result<Event, ParseError>
 }
 
 /// A function and its passes.
-#[tactic(auto, unfolding(crate::specs::Reading::compile_at, crate::specs::Reading::compiled_at, crate::specs::Tallies::counted))]
+#[tactic(auto, unfolding(crate::specs::Reading::compile_at, crate::specs::Reading::compiled_at, crate::specs::OneEvent::counted))]
 fn read_compile(
     alloc: Global,
     tokens: &mut Tokens<'_>,

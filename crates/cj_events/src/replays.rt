@@ -5,7 +5,7 @@ ghost use Rattle.cj_tokens.specs.Left.{left};
 ghost use Rattle.cj_tokens.specs.Lexemes.{Lexeme, is_terminal};
 ghost use Rattle.cj_tokens.specs.declared.terminal.Terminal.TheVariants.{End};
 ghost use Rattle.cj_grammar.specs.Grammar.{Tree, leaves, IsSentence};
-ghost use Rattle.cj_grammar.specs.Reading.{Gives, reads};
+ghost use Rattle.cj_grammar.specs.Readers.{Gives, reads};
 ghost use Rattle.cj_events.specs.Fitting.{FitsEvents};
 ghost use Rattle.cj_events.specs.Meaning.{history_offences, history_of};
 ghost use Rattle.cj_events.specs.Reading.{history_at};

@@ -1,7 +1,8 @@
 //! What the events so far come to.
 
 ghost use Rattle.std.specs.Prelude.{◌≡◌, []};
-ghost use Rattle.cj_events.specs.Tallies.{tally_of, counted, IsWithin};
+ghost use Rattle.cj_events.specs.Tallies.{tally_of, IsWithin};
+ghost use Rattle.cj_events.specs.OneEvent.{counted};
 
 use crate::events::Event;
 
@@ -29,7 +30,7 @@ pub fn nothing() -> Tally
 }
 
 /// One event more.
-#[tactic(auto, unfolding(crate::specs::Tallies::counted))]
+#[tactic(auto, unfolding(crate::specs::OneEvent::counted))]
 pub fn counted(tally: Tally, event: &Event) -> Tally
     requires { IsWithin (counted tally event.now) }
     ensures { result ≡ counted tally event.now }

@@ -1,9 +1,10 @@
 -- What begins next, by the next token.
 use Rattle.std.proofs.Common.{◌≡◌, true, false, List, [], ◌∷◌, refl, sym, ◌∙◌, inl, inr}
-use Rattle.cj_tokens.specs.Lexemes.{Lexeme, Sign, Is, fits, clash, front, is_terminal}
+use Rattle.cj_tokens.specs.Lexemes.{Lexeme, Sign, Is, fits, is_terminal}
+use Rattle.cj_grammar.specs.OneAhead.{clash, is_next, has}
+use Rattle.cj_tokens.specs.Passing.{front}
 use Rattle.cj_tokens.specs.declared.terminal.Terminal.{Terminal}
 use Rattle.cj_tokens.specs.declared.terminal.Terminal.TheVariants.{End}
-use Rattle.cj_grammar.specs.Grammar.{is_next, has}
 use Rattle.cj_grammar.proofs.Signs.{fits_one, fits_apart, known_bool, or_false}
 
 no_end : (s : Sign) (t : Lexeme) → clash s (Is End) ≡ false → fits (Is End) t ≡ true → fits s t ≡ false

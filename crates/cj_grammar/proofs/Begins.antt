@@ -2,7 +2,8 @@
 use Rattle.std.proofs.Common.{◌≡◌, suc, ◌+◌, ◌<◌, true, false, cond, ◌⊎◌, List, [], ◌∷◌, ◌++◌, length, None, Some, Ok, refl, ap, inl, inr, arith, length-append}
 use Rattle.std.specs.Prelude.{flat_map}
 use Rattle.cj_tokens.specs.Lexemes.{Lexeme, fits}
-use Rattle.cj_grammar.specs.Grammar.{Rule, tok, seq, alt, opt, many, Tree, leaves, is_empty, firsts, starts, eat}
+use Rattle.cj_grammar.specs.Grammar.{Rule, tok, seq, alt, opt, many, Tree, leaves}
+use Rattle.cj_grammar.specs.OneAhead.{is_empty, firsts, starts, eat}
 use Rattle.cj_grammar.proofs.Signs.{fits_one, one_left, one_right, or_left, or_right}
 use Rattle.cj_grammar.proofs.Eats.{sound}
 

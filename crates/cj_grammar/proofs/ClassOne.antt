@@ -3,9 +3,11 @@ use Rattle.std.proofs.Common.{◌≡◌, true, List, [], ◌∷◌, ◌++◌, Ok
 use Rattle.std.proofs.lemmas.Bool.{eqb-true, eq-eqb}
 use Rattle.std.proofs.lemmas.List.{append-nil}
 use Rattle.cj_tokens.specs.Ends.{HasOneEnd}
-use Rattle.cj_tokens.specs.Lexemes.{Lexeme, Is, Spelled, number_of, front, is_terminal}
+use Rattle.cj_tokens.specs.Lexemes.{Lexeme, Is, Spelled, number_of, is_terminal}
+use Rattle.cj_tokens.specs.Passing.{front}
 use Rattle.cj_tokens.specs.declared.terminal.Terminal.TheVariants.{End}
-use Rattle.cj_grammar.specs.Grammar.{Rule, tok, seq, alt, opt, many, Tree, leaves, IsSentence, is_plain, eat, IsFirstBad}
+use Rattle.cj_grammar.specs.Grammar.{Rule, tok, seq, alt, opt, many, Tree, leaves, IsSentence, IsFirstBad}
+use Rattle.cj_grammar.specs.OneAhead.{is_plain, eat}
 use Rattle.cj_grammar.specs.Contents.{is_ended, ends_with_end, lacks}
 use Rattle.cj_grammar.specs.Reading.{offence}
 use Rattle.cj_grammar.specs.Offences.{class_one, IsFirstOffence}

@@ -2,7 +2,8 @@
 use Rattle.std.proofs.Common.{◌≡◌, ℕ, zero, suc, ◌+◌, ◌≤◌, true, false, cond, List, [], ◌∷◌, ◌++◌, length, None, Some, Ok, refl, ap, append_assoc, inl, inr, arith, length-append}
 use Rattle.std.specs.Prelude.{flat_map, not, ◌&&◌}
 use Rattle.cj_tokens.specs.Lexemes.{Lexeme, Sign}
-use Rattle.cj_grammar.specs.Grammar.{Rule, tok, seq, alt, opt, many, Tree, leaves, is_empty, firsts, are_apart, is_plain, starts, eat, eat_many}
+use Rattle.cj_grammar.specs.Grammar.{Rule, tok, seq, alt, opt, many, Tree, leaves}
+use Rattle.cj_grammar.specs.OneAhead.{is_empty, firsts, are_apart, is_plain, starts, eat, eat_many}
 use Rattle.cj_grammar.proofs.Signs.{fits_one, one_left, one_right, apart, and_true, not_true}
 use Rattle.cj_grammar.proofs.Begins.{begins, full, started}
 

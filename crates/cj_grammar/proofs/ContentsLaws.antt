@@ -2,9 +2,10 @@
 use Rattle.std.proofs.Common.{◌≡◌, true, false, List, [], ◌∷◌, ◌++◌, None, Some, refl, ap, sym, ◌∙◌, inl, inr, subst}
 use Rattle.std.specs.Prelude.{flat_map, not}
 use Rattle.cj_tokens.specs.Ends.{HasOneEnd}
-use Rattle.cj_tokens.specs.Lexemes.{Lexeme, Sign, Is, fits, clash, is_terminal}
+use Rattle.cj_tokens.specs.Lexemes.{Lexeme, Sign, Is, fits, is_terminal}
+use Rattle.cj_grammar.specs.OneAhead.{clash, has}
 use Rattle.cj_tokens.specs.declared.terminal.Terminal.TheVariants.{End}
-use Rattle.cj_grammar.specs.Grammar.{Rule, tok, seq, alt, opt, many, Tree, leaves, has}
+use Rattle.cj_grammar.specs.Grammar.{Rule, tok, seq, alt, opt, many, Tree, leaves}
 use Rattle.cj_grammar.specs.Contents.{signs, is_without, lacks, is_ended}
 use Rattle.cj_grammar.proofs.Signs.{and_true, not_true, or_false, fits_apart}
 

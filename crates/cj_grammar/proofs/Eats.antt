@@ -3,7 +3,8 @@ use Rattle.std.proofs.Common.{◌≡◌, ℕ, zero, suc, Bool, true, false, cond
 use Rattle.std.specs.Prelude.{flat_map}
 use Rattle.std.proofs.lemmas.List.{append-nil}
 use Rattle.cj_tokens.specs.Lexemes.{Lexeme, Sign, fits}
-use Rattle.cj_grammar.specs.Grammar.{Rule, tok, seq, alt, opt, many, Tree, leaves, IsFront, starts, ◌>>=◌, eat, eat_many}
+use Rattle.cj_grammar.specs.Grammar.{Rule, tok, seq, alt, opt, many, Tree, leaves, IsFront}
+use Rattle.cj_grammar.specs.OneAhead.{starts, ◌>>=◌, eat, eat_many}
 use Rattle.cj_grammar.proofs.Signs.{sample, sample_fits}
 
 pub bind_ok : {A B E : Type 0} (r : Result A E) (f : A → Result B E) (y : B) → (r >>= f) ≡ Ok y → (x : A) × (r ≡ Ok x) × (f x ≡ Ok y)

@@ -3,7 +3,8 @@ use Rattle.std.proofs.Common.{◌⊎◌, inl, inr, ◌≡◌, true, List, [], �
 use Rattle.std.proofs.lemmas.List.{append-nil}
 use Rattle.cj_tokens.specs.Ends.{HasOneEnd}
 use Rattle.cj_tokens.specs.Lexemes.{Lexeme, Sign}
-use Rattle.cj_grammar.specs.Grammar.{Rule, leaves, IsSentence, IsFront, is_plain, eat, IsFirstBad}
+use Rattle.cj_grammar.specs.Grammar.{Rule, leaves, IsSentence, IsFront, IsFirstBad}
+use Rattle.cj_grammar.specs.OneAhead.{is_plain, eat}
 use Rattle.cj_grammar.specs.Contents.{is_ended}
 use Rattle.cj_grammar.proofs.Eats.{stuck}
 use Rattle.cj_grammar.proofs.Complete.{complete}

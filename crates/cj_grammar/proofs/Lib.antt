@@ -8,7 +8,6 @@ pub mod Local
 pub mod Repeats
 pub mod ContentsLaws
 pub mod FirstBad
-pub mod GrammarLaws
 pub mod Ahead
 pub mod Turns
 pub mod ClassOne

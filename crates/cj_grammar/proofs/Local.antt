@@ -2,7 +2,8 @@
 use Rattle.std.proofs.Common.{◌≡◌, ℕ, zero, suc, ◌+◌, ◌<◌, ◌≤◌, true, false, cond, List, [], ◌∷◌, ◌++◌, length, Result, Ok, Err, refl, ap, sym, ◌∙◌, append_assoc, inl, inr, arith, length-append}
 use Rattle.std.specs.Prelude.{flat_map, not, ◌&&◌}
 use Rattle.cj_tokens.specs.Lexemes.{Lexeme, Sign, fits}
-use Rattle.cj_grammar.specs.Grammar.{Rule, tok, seq, alt, opt, many, Tree, leaves, IsFront, is_empty, firsts, are_apart, is_plain, starts, ◌>>=◌, eat, eat_many}
+use Rattle.cj_grammar.specs.Grammar.{Rule, tok, seq, alt, opt, many, Tree, leaves, IsFront}
+use Rattle.cj_grammar.specs.OneAhead.{is_empty, firsts, are_apart, is_plain, starts, ◌>>=◌, eat, eat_many}
 use Rattle.std.proofs.lemmas.List.{append_cancel_right}
 use Rattle.cj_grammar.proofs.Signs.{known_bool, and_true, not_true}
 use Rattle.cj_grammar.proofs.Eats.{known, sound, sound_many, stuck, stuck_many}

@@ -4,8 +4,9 @@ use Rattle.std.specs.Prelude.{map, flat_map}
 use Rattle.std.proofs.lemmas.List.{append-nil}
 use Rattle.cj_tokens.specs.Lexemes.{Lexeme}
 use Rattle.cj_tokens.specs.declared.refusal.Refused.{Refused}
-use Rattle.cj_grammar.specs.Grammar.{◌>>=◌}
-use Rattle.cj_grammar.specs.Reading.{each_offends, Read, reads, each_at}
+use Rattle.cj_grammar.specs.OneAhead.{◌>>=◌}
+use Rattle.cj_grammar.specs.Reading.{each_offends}
+use Rattle.cj_grammar.specs.Readers.{Read, reads, each_at}
 
 -- a part, and what follows it
 pub reads_then : {X Y : Type 0} (es fs : List Refused) (x : X) (y : Y) (ts us : List Lexeme) (f : X × List Lexeme → Read Y) → f (x, ts) ≡ reads fs y us → (reads es x ts >>= f) ≡ reads (es ++ fs) y us

@@ -1,7 +1,8 @@
 -- A repeated part, turn by turn.
 use Rattle.std.proofs.Common.{◌≡◌, ℕ, zero, suc, ◌<◌, ◌≤◌, true, false, cond, List, [], ◌∷◌, length, Ok, refl, ◌∙◌, inl, inr, arith}
 use Rattle.cj_tokens.specs.Lexemes.{Lexeme}
-use Rattle.cj_grammar.specs.Grammar.{Rule, many, is_empty, starts, ◌>>=◌, eat, eat_many}
+use Rattle.cj_grammar.specs.Grammar.{Rule, many}
+use Rattle.cj_grammar.specs.OneAhead.{is_empty, starts, ◌>>=◌, eat, eat_many}
 use Rattle.cj_grammar.proofs.Signs.{known_bool}
 use Rattle.cj_grammar.proofs.Eats.{known}
 use Rattle.cj_grammar.proofs.Begins.{shorter}

@@ -1,13 +1,15 @@
 -- From what readers gave to what the tokens are.
 use Rattle.std.proofs.Common.{◌≡◌, ◌∙◌, sym, ap, refl, false, true, List, [], ◌∷◌, ◌++◌, Result, Ok, Err, inl, inr}
-use Rattle.cj_tokens.specs.Lexemes.{Lexeme, front, is_terminal}
+use Rattle.cj_tokens.specs.Lexemes.{Lexeme, is_terminal}
+use Rattle.cj_tokens.specs.Passing.{front}
 use Rattle.cj_tokens.specs.declared.terminal.Terminal.TheVariants.{Fun, End}
 use Rattle.cj_tokens.specs.declared.refusal.Refused as refusal
 use Rattle.cj_tokens.specs.declared.refusal.ParseError.{ParseError}
 use Rattle.cj_tokens.specs.declared.refusal.ParseError.TheVariants.{Refused, NoMemory}
 use Rattle.cj_grammar.specs.Grammar.{Rule, Tree, leaves, IsSentence}
 use Rattle.cj_grammar.specs.Offences.{class_one, IsFirstOffence}
-use Rattle.cj_grammar.specs.Reading.{reads, offence, Gives}
+use Rattle.cj_grammar.specs.Reading.{offence}
+use Rattle.cj_grammar.specs.Readers.{reads, Gives}
 use Rattle.cj_grammar.specs.Rules.{one, ◌▸◌, funs}
 use Rattle.cj_grammar.specs.Shapes.{GoesPast, HasFunctions}
 use Rattle.cj_grammar.specs.Sentences.{Reads, IsAnswer, Agrees}

@@ -3,10 +3,12 @@ use Rattle.std.proofs.Common.{◌≡◌, ℕ, zero, suc, ◌<◌, ◌≤◌, tru
 use Rattle.std.proofs.lemmas.Bool.{eq-eqb}
 use Rattle.std.specs.Prelude.{nat_eq}
 use Rattle.cj_tokens.specs.Ends.{HasOneEnd}
-use Rattle.cj_tokens.specs.Lexemes.{Lexeme, Is, number_of, front, is_terminal}
+use Rattle.cj_tokens.specs.Lexemes.{Lexeme, Is, number_of, is_terminal}
+use Rattle.cj_tokens.specs.Passing.{front}
 use Rattle.cj_tokens.specs.declared.terminal.Terminal.{Terminal}
 use Rattle.cj_tokens.specs.declared.terminal.Terminal.TheVariants.{Fun}
-use Rattle.cj_grammar.specs.Grammar.{Rule, many, Tree, leaves, IsSentence, is_empty, is_plain, starts, ◌>>=◌, eat, eat_many}
+use Rattle.cj_grammar.specs.Grammar.{Rule, many, Tree, leaves, IsSentence}
+use Rattle.cj_grammar.specs.OneAhead.{is_empty, is_plain, starts, ◌>>=◌, eat, eat_many}
 use Rattle.cj_grammar.specs.Rules.{operand, more_operands, operands, more_names, names, binary, expr, target, nop_instr, op_instr, cond_instr, call_instr, return_instr, print_instr, load_instr, store_instr, fail_instr, instr, line, lines, head, fun, more_funs, funs, guess_setup, edge, cold_setup, warm_setup, setup, setups, numbers, begun, script_call, script_calls, script, input}
 use Rattle.cj_grammar.specs.Reading.{offence}
 use Rattle.cj_grammar.specs.Offences.{class_one, IsFirstOffence}

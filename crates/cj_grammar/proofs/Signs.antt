@@ -5,9 +5,9 @@ use Rattle.std.specs.List.{list_any}
 use Rattle.std.specs.Str.{bytes_eq}
 use Rattle.std.proofs.lemmas.Bool.{eqb-true, eq-eqb}
 use Rattle.std.proofs.lemmas.Slice.Eq.{bytes_eq-Decides}
-use Rattle.cj_tokens.specs.Lexemes.{Lexeme, Sign, Is, Spelled, number_of, is_terminal, fits, clash}
+use Rattle.cj_tokens.specs.Lexemes.{Lexeme, Sign, Is, Spelled, number_of, is_terminal, fits}
+use Rattle.cj_grammar.specs.OneAhead.{clash, has, are_apart}
 use Rattle.cj_tokens.specs.declared.terminal.Terminal.TheVariants.{Name}
-use Rattle.cj_grammar.specs.Grammar.{has, are_apart}
 pub use Rattle.cj_ir.proofs.Truths.{and_true, or_false}
 
 pub known_bool : (b : Bool) → (b ≡ true) ⊎ (b ≡ false)

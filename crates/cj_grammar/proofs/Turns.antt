@@ -1,8 +1,9 @@
 -- The loops of the grammar, turn by turn: one part more, or none; and a part takes tokens.
 use Rattle.std.proofs.Common.{◌≡◌, ◌<◌, true, false, List, length, Ok, refl}
-use Rattle.cj_tokens.specs.Lexemes.{Lexeme, front, is_terminal}
+use Rattle.cj_tokens.specs.Lexemes.{Lexeme, is_terminal}
+use Rattle.cj_tokens.specs.Passing.{front}
 use Rattle.cj_tokens.specs.declared.terminal.Terminal.TheVariants.{Name, Comma, Number, Fun, Call}
-use Rattle.cj_grammar.specs.Grammar.{starts, ◌>>=◌, eat}
+use Rattle.cj_grammar.specs.OneAhead.{starts, ◌>>=◌, eat}
 use Rattle.cj_grammar.specs.Rules.{one, ◌▸◌, operand, more_operands, more_names, line, lines, head, fun, more_funs, guess_setup, cold_setup, warm_setup, setup, setups, numbers, script_call, script_calls}
 use Rattle.cj_grammar.proofs.Ahead.{begun_by, not_begun_by}
 use Rattle.cj_grammar.proofs.Begins.{shorter}

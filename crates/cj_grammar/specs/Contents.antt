@@ -3,7 +3,8 @@ use Rattle.std.specs.Prelude.{Bool, true, false, nat_eq, ◌&&◌, not, List, []
 use Rattle.std.specs.List.{list_all}
 use Rattle.cj_tokens.specs.Lexemes.{Lexeme, Sign, Is, Spelled, number_of, fits}
 use Rattle.cj_tokens.specs.declared.terminal.Terminal.TheVariants.{End}
-use Rattle.cj_grammar.specs.Grammar.{Rule, tok, seq, alt, opt, many, has}
+use Rattle.cj_grammar.specs.Grammar.{Rule, tok, seq, alt, opt, many}
+use Rattle.cj_grammar.specs.OneAhead.{has}
 
 -- what the tokens of its sentences fit
 abbrev pub signs : Rule → List Sign

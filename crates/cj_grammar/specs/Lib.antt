@@ -1,8 +1,10 @@
 pub mod Grammar
+pub mod OneAhead
 pub mod Contents
 pub mod Rules
 pub mod Plain
 pub mod Reading
+pub mod Readers
 pub mod Offences
 pub mod Shapes
 pub mod Sentences

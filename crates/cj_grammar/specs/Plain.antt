@@ -1,6 +1,6 @@
 -- One token ahead decides the grammars.
 use Rattle.std.specs.Prelude.{◌≡◌, true, []}
-use Rattle.cj_grammar.specs.Grammar.{is_plain}
+use Rattle.cj_grammar.specs.OneAhead.{is_plain}
 use Rattle.cj_grammar.specs.Rules.{input}
 
 abbrev pub InputIsPlain : Type 0

@@ -1,6 +1,7 @@
 -- Functions in front of other tokens.
 use Rattle.std.specs.Prelude.{◌≡◌, false, List, ◌++◌}
-use Rattle.cj_tokens.specs.Lexemes.{Lexeme, front, is_terminal}
+use Rattle.cj_tokens.specs.Lexemes.{Lexeme, is_terminal}
+use Rattle.cj_tokens.specs.Passing.{front}
 use Rattle.cj_tokens.specs.declared.terminal.Terminal.TheVariants.{Fun}
 use Rattle.cj_grammar.specs.Grammar.{Tree, leaves}
 use Rattle.cj_grammar.specs.Rules.{funs}

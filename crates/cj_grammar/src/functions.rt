@@ -4,7 +4,8 @@ ghost use Rattle.std.specs.Prelude.{◌≡◌};
 ghost use Rattle.cj_tokens.specs.Left.{left};
 ghost use Rattle.cj_tokens.specs.Passing.{ended};
 ghost use Rattle.cj_tokens.specs.declared.terminal.Terminal.TheVariants.{Semicolon};
-ghost use Rattle.cj_grammar.specs.Grammar.{eat, opt};
+ghost use Rattle.cj_grammar.specs.Grammar.{opt};
+ghost use Rattle.cj_grammar.specs.OneAhead.{eat};
 ghost use Rattle.cj_grammar.specs.Rules.{one, ◌▸◌, names, head, fun, funs};
 
 use crate::instructions::pass_lines;

@@ -3,7 +3,8 @@
 ghost use Rattle.std.specs.Prelude.{◌≡◌};
 ghost use Rattle.cj_tokens.specs.Left.{left};
 ghost use Rattle.cj_tokens.specs.Passing.{ended};
-ghost use Rattle.cj_grammar.specs.Grammar.{eat, opt, starts};
+ghost use Rattle.cj_grammar.specs.Grammar.{opt};
+ghost use Rattle.cj_grammar.specs.OneAhead.{eat, starts};
 ghost use Rattle.cj_grammar.specs.Rules.{operand, operands, nop_instr, op_instr, cond_instr, call_instr, return_instr, print_instr, load_instr, store_instr, fail_instr, instr, line, lines};
 
 use crate::operands::{pass_expr, pass_operand, pass_operands, pass_target};

@@ -4,7 +4,8 @@ ghost use Rattle.std.specs.Prelude.{◌≡◌};
 ghost use Rattle.cj_tokens.specs.Left.{left};
 ghost use Rattle.cj_tokens.specs.Passing.{ended};
 ghost use Rattle.cj_tokens.specs.declared.terminal.Terminal.TheVariants.{Comma, Name};
-ghost use Rattle.cj_grammar.specs.Grammar.{eat, opt, starts};
+ghost use Rattle.cj_grammar.specs.Grammar.{opt};
+ghost use Rattle.cj_grammar.specs.OneAhead.{eat, starts};
 ghost use Rattle.cj_grammar.specs.Rules.{one, ◌▸◌, operand, operands, names, binary, expr, target};
 
 use cj_tokens::{Terminal, Tokens, Unfit};

@@ -4,7 +4,8 @@ ghost use Rattle.std.specs.Prelude.{◌≡◌};
 ghost use Rattle.cj_tokens.specs.Left.{left};
 ghost use Rattle.cj_tokens.specs.Passing.{ended};
 ghost use Rattle.cj_tokens.specs.declared.terminal.Terminal.TheVariants.{Memory, Number};
-ghost use Rattle.cj_grammar.specs.Grammar.{eat, opt, starts};
+ghost use Rattle.cj_grammar.specs.Grammar.{opt};
+ghost use Rattle.cj_grammar.specs.OneAhead.{eat, starts};
 ghost use Rattle.cj_grammar.specs.Rules.{one, ◌▸◌, guess_setup, edge, cold_setup, warm_setup, setup, setups, numbers, begun, script_call, script_calls, script, input};
 
 use crate::functions::pass_funs;

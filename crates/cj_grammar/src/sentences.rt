@@ -3,7 +3,7 @@
 ghost use Rattle.std.specs.Prelude.{◌≡◌, OnOk, OnErr, IfErr};
 ghost use Rattle.cj_tokens.specs.Ends.{HasOneEnd};
 ghost use Rattle.cj_tokens.specs.Left.{left};
-ghost use Rattle.cj_tokens.specs.Lexemes.{front};
+ghost use Rattle.cj_tokens.specs.Passing.{front};
 ghost use Rattle.cj_tokens.specs.Seen.{seen};
 ghost use Rattle.cj_grammar.specs.Grammar.{IsSentence};
 ghost use Rattle.cj_grammar.specs.Offences.{class_one, IsFirstOffence};

@@ -1,7 +1,6 @@
 -- What stands where in a program.
-use Rattle.std.specs.Prelude.{◌≡◌, ℕ, length, Option, Some, None, slice_get}
+use Rattle.std.specs.Prelude.{ℕ, length, Option, Some, None, slice_get}
 use Rattle.std.specs.Option.{option_and_then, option_map}
-use Rattle.cj_ir.specs.WellFormed.{IsInstrFine}
 use Rattle.cj_ir.specs.declared.language.FunId.{FunId}
 use Rattle.cj_ir.specs.declared.language.Label.{Label}
 use Rattle.cj_ir.specs.declared.language.Line.{Line}
@@ -44,11 +43,3 @@ reg_count p f = regs_of (function_at p f)
 
 abbrev pub label_count : Program → FunId → ℕ
 label_count p f = labels_of (function_at p f)
-
--- all that an instruction of that function names exists
-abbrev pub IsFineIn : Program → FunId → Instr → Type 0
-IsFineIn p f instr = IsInstrFine p.functions (reg_count p f) (label_count p f) instr
-
--- each instruction of the program names only what exists
-abbrev pub AreAllFine : Program → Type 0
-AreAllFine p = (f : FunId) (l : Label) (instr : Instr) → instr_at p f l ≡ Some instr → IsFineIn p f instr

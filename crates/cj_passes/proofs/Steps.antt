@@ -5,7 +5,8 @@ use Rattle.cj_draft.specs.declared.code.Code.{Code}
 use Rattle.cj_draft.specs.declared.passes.Pass.{Pass}
 use Rattle.cj_draft.specs.declared.passes.Skipped.{Skipped}
 use Rattle.cj_draft.specs.Skips.{told}
-use Rattle.cj_passes.specs.Pipeline.{reasons, numbered, ArePassed, Passed, IsPassStep}
+use Rattle.cj_passes.specs.Pipeline.{reasons, numbered, ArePassed, Passed}
+use Rattle.cj_passes.specs.OnePass.{IsPassStep}
 
 -- what a pass skipped is appended, one after the other
 pub one_skip_more : (all skips now rest : List (ℕ × Skipped)) (number : ℕ) (skip : ℕ × Skipped) → now ≡ skips ++ (told number, skip.1) ∷ [] → skips ++ numbered number (reasons (skip ∷ rest)) ≡ all → now ++ numbered number (reasons rest) ≡ all

@@ -1,3 +1,4 @@
 pub mod Lowering
 pub mod Search
 pub mod Pipeline
+pub mod OnePass

@@ -67,10 +67,3 @@ pub record IsPipeline (P : Program) (f : FunId) (passes : List Pass) (made : Cod
   pub draft : Code
   pub passed : ArePassed P 0 (base_code P f) passes draft skips
   pub lowered : IsLowered draft made
-
--- ---- one step of the list
-
--- the code that a pass makes, and what is skipped before and after it
-abbrev pub IsPassStep : Program → Code → ℕ → Pass → Code → List (ℕ × Skipped) → List (ℕ × Skipped) → Type 0
-IsPassStep P code number pass made skips more =
-    (skipped : List Skipped) × IsPassed P code pass made skipped × (more ≡ skips ++ numbered number skipped)

@@ -2,7 +2,8 @@
 
 ghost use Rattle.std.specs.Prelude.{◌≡◌, ◌<◌, [], IfOk, length};
 ghost use Rattle.cj_inline.specs.Inlining.{called_at};
-ghost use Rattle.cj_passes.specs.Pipeline.{or_own, callee_at, IsPassStep, IsPipeline};
+ghost use Rattle.cj_passes.specs.Pipeline.{or_own, callee_at, IsPipeline};
+ghost use Rattle.cj_passes.specs.OnePass.{IsPassStep};
 
 use crate::lowering::lower;
 use crate::skips::{push_all, push_one};

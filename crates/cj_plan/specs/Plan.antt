@@ -4,12 +4,12 @@ use Rattle.cj_ir.specs.Program.{function_at, label_count}
 use Rattle.cj_ir.specs.declared.language.FunId.{FunId}
 use Rattle.cj_ir.specs.declared.language.Label.{Label}
 use Rattle.cj_ir.specs.declared.language.Line.{Line}
-use Rattle.cj_ir.specs.declared.language.Function.{Function}
 use Rattle.cj_ir.specs.declared.language.Program.{Program}
 use Rattle.cj_ir.specs.declared.language.Instr.{Instr}
 use Rattle.cj_ir.specs.declared.language.Instr.TheVariants.{Nop, Op, Cond, Call, Return, Print, Load, Store, Fail}
 use Rattle.cj_ir.specs.declared.language.Guard.{Guard}
 use Rattle.cj_ir.specs.declared.language.Guard.TheVariants.{Is, Never}
+use Rattle.cj_draft.specs.BaseBody.{lines_of}
 use Rattle.cj_draft.specs.declared.passes.Pass.{Pass}
 use Rattle.cj_draft.specs.declared.passes.Pass.TheVariants.{Anchors, Assume, Delay, Const, Inline}
 use Rattle.cj_profile.specs.declared.snapshot.ParamNote.{ParamNote}
@@ -27,10 +27,6 @@ abbrev pub label : ℕ → Label
 label n = record { 0 = n }
 
 -- a function's code
-abbrev pub lines_of : Option Function → List Line
-lines_of None = []
-lines_of (Some g) = g.code
-
 abbrev pub code_of : Program → FunId → List Line
 code_of p f = lines_of (function_at p f)
 

@@ -7,7 +7,7 @@ use Rattle.cj_ir.specs.declared.language.Edge.TheVariants.{Then, Else}
 use Rattle.cj_profile.specs.declared.layout.Word.TheVariants.{Last, Agreed, Way}
 use Rattle.cj_profile.specs.declared.snapshot.ParamNote.{ParamNote}
 use Rattle.cj_profile.specs.declared.snapshot.EdgeNote.{EdgeNote}
-use Rattle.cj_profile.specs.Words.{value_word}
+use Rattle.cj_ir.specs.Values.{value_word}
 use Rattle.std.specs.Prelude.{All}
 use Rattle.std.proofs.lemmas.List.Elements.{All-nil, All-cons, All-append}
 use Rattle.cj_profile.specs.Reads.{load, Keeps, ParamPart, ParamsPart}

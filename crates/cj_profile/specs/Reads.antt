@@ -1,7 +1,8 @@
 -- The steps that a seat makes, and those of each call.
 use Rattle.std.specs.Prelude.{◌≡◌, ◌≢◌, ℕ, suc, ◌+◌, ◌%◌, ◌^◌, max, List, [], ◌∷◌, ◌++◌, Some, None, ◌⊎◌, ℤ}
 use Rattle.cj_ir.specs.declared.language.FunId.{FunId}
-use Rattle.cj_profile.specs.Words.{number, value_word}
+use Rattle.cj_ir.specs.Values.{value_word}
+use Rattle.cj_profile.specs.Words.{number}
 use Rattle.cj_profile.specs.declared.layout.Word.{Word}
 use Rattle.cj_profile.specs.declared.layout.Word.TheVariants.{Calls, Last, Agreed}
 use Rattle.cj_profile.specs.declared.view.Read.{Read}

@@ -5,7 +5,7 @@ use Rattle.cj_ir.specs.declared.language.FunId.{FunId}
 use Rattle.cj_ir.specs.declared.language.Label.{Label}
 use Rattle.cj_ir.specs.declared.language.Program.{Program}
 use Rattle.cj_ir.specs.declared.language.Edge.TheVariants.{Then, Else}
-use Rattle.cj_profile.specs.Words.{value_word}
+use Rattle.cj_ir.specs.Values.{value_word}
 use Rattle.cj_profile.specs.Reads.{load}
 use Rattle.cj_profile.specs.declared.layout.Word.TheVariants.{Calls, Failures, Last, Agreed, Way}
 use Rattle.cj_profile.specs.declared.view.Read.{Read}

@@ -1,8 +1,7 @@
 -- The words of a profile. Word 0 counts the callers that have finished, and each function has 532 words from 1 on: its
 -- calls, failures, asked and taken level, then the last argument of each of 8 parameters and how many agreed with it, then
 -- how often each of 256 labels took its two edges.
-use Rattle.std.specs.Prelude.{ℕ, ◌+◌, ◌*◌, ◌<◌, ⊤, length, ℤ}
-use Rattle.std.specs.Int.{cast_unsigned, w64}
+use Rattle.std.specs.Prelude.{ℕ, ◌+◌, ◌*◌, ◌<◌, ⊤, length}
 use Rattle.cj_ir.specs.Program.{param_count, label_count}
 use Rattle.cj_ir.specs.declared.language.FunId.{FunId}
 use Rattle.cj_ir.specs.declared.language.Program.{Program}
@@ -45,7 +44,3 @@ IsWordOf p (Way f label edge) = label.0 < label_count p f
 abbrev pub other_edge : Edge → Edge
 other_edge Then = Else
 other_edge Else = Then
-
--- a value's word, its two's complement
-abbrev pub value_word : ℤ → ℕ
-value_word = cast_unsigned w64

@@ -3,7 +3,8 @@
 ghost use Rattle.std.specs.Prelude.{◌≡◌, ◌<◌, [], ◌∷◌};
 ghost use Rattle.cj_ir.specs.Program.{param_count, label_count};
 ghost use Rattle.cj_profile.specs.declared.layout.Word.TheVariants.{Last, Agreed, Way};
-ghost use Rattle.cj_profile.specs.Words.{value_word, other_edge};
+ghost use Rattle.cj_ir.specs.Values.{value_word};
+ghost use Rattle.cj_profile.specs.Words.{other_edge};
 ghost use Rattle.cj_profile.specs.Reads.{store};
 ghost use Rattle.cj_profile.specs.Seats.{program_of, Belongs, IsSame, Adds};
 

@@ -6,8 +6,9 @@ use Rattle.cj_tokens.specs.declared.refusal.Kind.{Kind}
 use Rattle.cj_tokens.specs.declared.refusal.Refused.{Refused}
 use Rattle.cj_tokens.specs.declared.refusal.ParseError.{ParseError}
 use Rattle.cj_tokens.specs.declared.refusal.ParseError.TheVariants as parse
-use Rattle.cj_grammar.specs.Grammar.{◌>>=◌}
-use Rattle.cj_grammar.specs.Reading.{offence, offends_if, missing, Read, reads, found, Found, Gives}
+use Rattle.cj_grammar.specs.OneAhead.{◌>>=◌}
+use Rattle.cj_grammar.specs.Reading.{offence, offends_if, missing}
+use Rattle.cj_grammar.specs.Readers.{Read, reads, found, Found, Gives}
 use Rattle.cj_reader.specs.Reading.{refuse_if}
 
 -- the first offence, or the value

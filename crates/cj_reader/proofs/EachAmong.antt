@@ -4,7 +4,8 @@ use Rattle.std.specs.Prelude.{map, flat_map}
 use Rattle.std.proofs.lemmas.List.{append-nil, map-append}
 use Rattle.cj_tokens.specs.Lexemes.{Lexeme}
 use Rattle.cj_tokens.specs.declared.refusal.Refused.{Refused}
-use Rattle.cj_grammar.specs.Reading.{each_offends, each_at, Read, reads}
+use Rattle.cj_grammar.specs.Reading.{each_offends}
+use Rattle.cj_grammar.specs.Readers.{each_at, Read, reads}
 use Rattle.cj_grammar.proofs.ReadsLaws.{reads_then}
 
 module _ {T X Y : Type 0} (one : List X → List Lexeme → Read X) (spelled : T → List Lexeme) (offends : List Y → T → List Refused) (key : T → Y) (means : T → X) (all : List T) (each : (done : List T) (t : T) (more : List T) (us : List Lexeme) → all ≡ done ++ t ∷ more → one (map means done) (spelled t ++ us) ≡ reads (offends (map key done) t) (means t) us) where

@@ -14,7 +14,8 @@ use Rattle.cj_tokens.specs.Lexemes.{Lexeme}
 use Rattle.cj_tokens.specs.declared.refusal.Refused.{Refused}
 use Rattle.cj_grammar.specs.Grammar.{Tree}
 use Rattle.cj_grammar.specs.Rules.{fun, more_funs, funs}
-use Rattle.cj_grammar.specs.Reading.{each_offends, reads}
+use Rattle.cj_grammar.specs.Reading.{each_offends}
+use Rattle.cj_grammar.specs.Readers.{reads}
 use Rattle.cj_grammar.specs.Shapes.{GoesPast, HasFunctions}
 use Rattle.cj_reader.specs.declared.scope.Callee.{Callee}
 use Rattle.cj_reader.specs.Scopes.{Head, first_named}

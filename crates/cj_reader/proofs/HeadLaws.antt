@@ -1,7 +1,8 @@
 -- The heads of functions, looked up ahead, on the tokens of a tree.
 use Rattle.std.proofs.Common.{◌≡◌, ℕ, List, [], ◌∷◌, ◌++◌, length, Bool, true, false, cond, refl, ap, sym, ◌∙◌, append_assoc}
 use Rattle.std.specs.Prelude.{not, map, flat_map}
-use Rattle.cj_tokens.specs.Lexemes.{Lexeme, Is, is_terminal, front, behind}
+use Rattle.cj_tokens.specs.Lexemes.{Lexeme, Is, is_terminal}
+use Rattle.cj_tokens.specs.Passing.{front, behind}
 use Rattle.cj_tokens.specs.declared.terminal.Terminal.TheVariants as terminal
 use Rattle.cj_grammar.specs.Grammar.{Rule, Leaf, Tree, leaves, opt}
 use Rattle.cj_grammar.specs.Contents.{lacks}

@@ -3,13 +3,16 @@ use Rattle.std.proofs.Common.{◌≡◌, inl, inr, ℕ, suc, ◌+◌, List, [], 
 use Rattle.std.specs.Prelude.{Option, Some, None, not, nat_lt, ◌==◌, map, flat_map, unwrap_or, option_map}
 use Rattle.cj_ir.specs.declared.language.Operand.{Operand}
 use Rattle.cj_ir.specs.declared.language.Instr.TheVariants as instrs
-use Rattle.cj_tokens.specs.Lexemes.{Lexeme, Is, number_of, front, behind}
+use Rattle.cj_tokens.specs.Lexemes.{Lexeme, Is, number_of}
+use Rattle.cj_tokens.specs.Passing.{front, behind}
 use Rattle.cj_tokens.specs.declared.terminal.Terminal.TheVariants as terminal
 use Rattle.cj_tokens.specs.declared.refusal.Kind.TheVariants.{TooMany, Arguments}
 use Rattle.cj_tokens.specs.declared.refusal.Refused.{Refused}
-use Rattle.cj_grammar.specs.Grammar.{Leaf, Tree, leaves, opt, ◌>>=◌}
+use Rattle.cj_grammar.specs.Grammar.{Leaf, Tree, leaves, opt}
+use Rattle.cj_grammar.specs.OneAhead.{◌>>=◌}
 use Rattle.cj_grammar.specs.Rules.{operand, expr, target, operands, more_operands, nop_instr, op_instr, cond_instr, call_instr, return_instr, print_instr, load_instr, store_instr, fail_instr, instr}
-use Rattle.cj_grammar.specs.Reading.{offends_if, each_offends, each_at, reads}
+use Rattle.cj_grammar.specs.Reading.{offends_if, each_offends}
+use Rattle.cj_grammar.specs.Readers.{each_at, reads}
 use Rattle.cj_grammar.proofs.ReadsLaws.{reads_then, reads_last, each_reads}
 use Rattle.cj_reader.specs.declared.scope.Callee.{Callee}
 use Rattle.cj_reader.specs.declared.calls.Called.{Called}

@@ -2,7 +2,7 @@
 use Rattle.std.proofs.Common.{◌≡◌, ℕ, ℤ, List, [], ap, ◌∙◌}
 use Rattle.std.specs.Prelude.{Option}
 use Rattle.cj_tokens.specs.Lexemes.{Lexeme}
-use Rattle.cj_grammar.specs.Reading.{each_at}
+use Rattle.cj_grammar.specs.Readers.{each_at}
 use Rattle.cj_reader.specs.declared.scope.Labels.{Labels}
 use Rattle.cj_reader.specs.declared.scope.Functions.{Functions}
 use Rattle.cj_reader.specs.Scopes.{Scope, number_place, first_named}

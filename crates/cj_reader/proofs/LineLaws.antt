@@ -5,12 +5,15 @@ use Rattle.std.specs.List.{list_any, position_from}
 use Rattle.std.specs.Ordering.{int_eq}
 use Rattle.std.proofs.lemmas.List.{length-map, map-append}
 use Rattle.cj_ir.specs.declared.language.Line.{Line}
-use Rattle.cj_tokens.specs.Lexemes.{Lexeme, Is, front, behind}
+use Rattle.cj_tokens.specs.Lexemes.{Lexeme, Is}
+use Rattle.cj_tokens.specs.Passing.{front, behind}
 use Rattle.cj_tokens.specs.declared.terminal.Terminal.TheVariants as terminal
 use Rattle.cj_tokens.specs.declared.refusal.Kind.TheVariants.{TooMany, Range, LabelTwice, NoEntry}
-use Rattle.cj_grammar.specs.Grammar.{Leaf, Tree, leaves, ◌>>=◌}
+use Rattle.cj_grammar.specs.Grammar.{Leaf, Tree, leaves}
+use Rattle.cj_grammar.specs.OneAhead.{◌>>=◌}
 use Rattle.cj_grammar.specs.Rules.{line, lines}
-use Rattle.cj_grammar.specs.Reading.{offends_if, each_offends, each_at, reads}
+use Rattle.cj_grammar.specs.Reading.{offends_if, each_offends}
+use Rattle.cj_grammar.specs.Readers.{each_at, reads}
 use Rattle.cj_grammar.proofs.ReadsLaws.{reads_then, reads_last}
 use Rattle.cj_reader.specs.Scopes.{Scope, number_place}
 use Rattle.cj_reader.specs.Operands.{is_line_number}

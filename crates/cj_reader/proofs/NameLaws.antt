@@ -4,13 +4,16 @@ use Rattle.std.specs.Prelude.{Some, None, ◌||◌, nat_le, map, flat_map}
 use Rattle.std.specs.List.{list_any}
 use Rattle.std.specs.Str.{bytes_eq}
 use Rattle.std.proofs.lemmas.List.{length-map, append-nil}
-use Rattle.cj_tokens.specs.Lexemes.{Lexeme, Is, is_terminal, front, behind}
+use Rattle.cj_tokens.specs.Lexemes.{Lexeme, Is, is_terminal}
+use Rattle.cj_tokens.specs.Passing.{front, behind}
 use Rattle.cj_tokens.specs.declared.terminal.Terminal.TheVariants as terminal
 use Rattle.cj_tokens.specs.declared.refusal.Kind.TheVariants.{TooMany, NameTwice}
 use Rattle.cj_tokens.specs.declared.refusal.Refused.{Refused}
-use Rattle.cj_grammar.specs.Grammar.{Leaf, Tree, leaves, opt, ◌>>=◌}
+use Rattle.cj_grammar.specs.Grammar.{Leaf, Tree, leaves, opt}
+use Rattle.cj_grammar.specs.OneAhead.{◌>>=◌}
 use Rattle.cj_grammar.specs.Rules.{names, more_names}
-use Rattle.cj_grammar.specs.Reading.{offends_if, each_offends, each_at, reads}
+use Rattle.cj_grammar.specs.Reading.{offends_if, each_offends}
+use Rattle.cj_grammar.specs.Readers.{each_at, reads}
 use Rattle.cj_grammar.proofs.ReadsLaws.{reads_then, reads_last, each_reads}
 use Rattle.cj_reader.specs.Operands.{is_long}
 use Rattle.cj_reader.specs.Functions.{name_offences, name_tokens, names_offences, texts_of, other_names}

@@ -5,13 +5,16 @@ use Rattle.std.proofs.lemmas.Bool.{eqb-true}
 use Rattle.cj_ir.specs.declared.language.Operand.{Operand}
 use Rattle.cj_ir.specs.declared.language.Reg.{Reg}
 use Rattle.cj_ir.specs.declared.language.Label.{Label}
-use Rattle.cj_tokens.specs.Lexemes.{Lexeme, Is, number_of, is_terminal, front, behind}
+use Rattle.cj_tokens.specs.Lexemes.{Lexeme, Is, number_of, is_terminal}
+use Rattle.cj_tokens.specs.Passing.{front, behind}
 use Rattle.cj_tokens.specs.declared.terminal.Terminal.{Terminal}
 use Rattle.cj_tokens.specs.declared.terminal.Terminal.TheVariants as terminal
 use Rattle.cj_tokens.specs.declared.refusal.Kind.TheVariants.{TooMany, Range, NoRegister, NoLabel}
-use Rattle.cj_grammar.specs.Grammar.{Leaf, Tree, leaves, ◌>>=◌}
+use Rattle.cj_grammar.specs.Grammar.{Leaf, Tree, leaves}
+use Rattle.cj_grammar.specs.OneAhead.{◌>>=◌}
 use Rattle.cj_grammar.specs.Rules.{operand, binary, expr, target}
-use Rattle.cj_grammar.specs.Reading.{missing, reads}
+use Rattle.cj_grammar.specs.Reading.{missing}
+use Rattle.cj_grammar.specs.Readers.{reads}
 use Rattle.cj_grammar.proofs.ReadsLaws.{reads_then, reads_last}
 use Rattle.cj_reader.specs.declared.operators.Operator.TheVariants as operator
 use Rattle.cj_reader.specs.Scopes.{Scope, name_place}

@@ -2,7 +2,8 @@
 use Rattle.std.proofs.Common.{◌≡◌, ◌+◌, List, [], ◌∷◌, ◌++◌, length, true, false, refl, sym, append_assoc, arith, zero-add}
 use Rattle.std.specs.Prelude.{Some, None, not, map, flat_map}
 use Rattle.std.proofs.lemmas.List.{length-map}
-use Rattle.cj_tokens.specs.Lexemes.{Lexeme, Is, is_terminal, front}
+use Rattle.cj_tokens.specs.Lexemes.{Lexeme, Is, is_terminal}
+use Rattle.cj_tokens.specs.Passing.{front}
 use Rattle.cj_tokens.specs.declared.terminal.Terminal.TheVariants as terminal
 use Rattle.cj_grammar.specs.Grammar.{Rule, Leaf, Tree, leaves, opt, seq}
 use Rattle.cj_grammar.specs.Contents.{lacks}

@@ -5,13 +5,15 @@ use Rattle.std.specs.List.{list_any}
 use Rattle.std.specs.Str.{bytes_eq}
 use Rattle.std.proofs.lemmas.List.{length-map, map-append}
 use Rattle.cj_ir.specs.declared.language.Function.{Function}
-use Rattle.cj_tokens.specs.Lexemes.{Lexeme, Is, is_terminal, front, behind}
+use Rattle.cj_tokens.specs.Lexemes.{Lexeme, Is, is_terminal}
+use Rattle.cj_tokens.specs.Passing.{front, behind}
 use Rattle.cj_tokens.specs.declared.terminal.Terminal.TheVariants as terminal
 use Rattle.cj_tokens.specs.declared.refusal.Kind.TheVariants.{TooMany, NameTwice, NoEntry}
 use Rattle.cj_tokens.specs.declared.refusal.Refused.{Refused}
 use Rattle.cj_grammar.specs.Grammar.{Leaf, Tree, leaves, opt}
 use Rattle.cj_grammar.specs.Rules.{names, lines, head, fun, more_funs, funs}
-use Rattle.cj_grammar.specs.Reading.{offends_if, each_offends, each_at, Read, reads}
+use Rattle.cj_grammar.specs.Reading.{offends_if, each_offends}
+use Rattle.cj_grammar.specs.Readers.{each_at, Read, reads}
 use Rattle.cj_grammar.proofs.ReadsLaws.{reads_then, reads_last}
 use Rattle.cj_reader.specs.Scopes.{Head, first_named}
 use Rattle.cj_reader.specs.declared.declarations.Declared.{Declared}

@@ -1,6 +1,7 @@
 -- What is looked up ahead, token by token.
 use Rattle.std.proofs.Common.{◌≡◌, ℕ, suc, ◌+◌, ◌<◌, List, [], ◌∷◌, ◌++◌, length, true, false, cond, refl, ap, sym, ◌∙◌, append_assoc, arith, Result, Ok}
-use Rattle.cj_tokens.specs.Lexemes.{Lexeme, is_terminal, front, behind}
+use Rattle.cj_tokens.specs.Lexemes.{Lexeme, is_terminal}
+use Rattle.cj_tokens.specs.Passing.{front, behind}
 use Rattle.cj_tokens.specs.declared.terminal.Terminal.TheVariants.{Comma}
 use Rattle.cj_reader.specs.Scopes.{Head}
 use Rattle.cj_reader.specs.Prescans.{ends_list, count_at, ends_body, numbered, numbers_at, ends_functions, headed, heads_at}

@@ -5,7 +5,7 @@ use Rattle.std.specs.Str.{bytes_eq}
 use Rattle.indexmap.specs.IndexMap.{get_by}
 use Rattle.cj_tokens.specs.Lexemes.{Lexeme}
 use Rattle.cj_tokens.specs.declared.refusal.ParseError.{ParseError}
-use Rattle.cj_grammar.specs.Reading.{Fails, Read}
+use Rattle.cj_grammar.specs.Readers.{Fails, Read}
 use Rattle.cj_reader.specs.declared.scope.Callee.{Callee}
 use Rattle.cj_reader.specs.declared.scope.Labels.{Labels}
 use Rattle.cj_reader.specs.declared.scope.Functions.{Functions}

@@ -1,6 +1,7 @@
 -- What is looked up ahead of the reading: counts of lists, the numbers of lines, and the heads of functions.
 use Rattle.std.specs.Prelude.{ℕ, ℤ, suc, Bool, cond, ◌&&◌, ◌||◌, not, List, [], ◌∷◌, ◌++◌, nat_eq}
-use Rattle.cj_tokens.specs.Lexemes.{Lexeme, number_of, is_terminal, front, behind}
+use Rattle.cj_tokens.specs.Lexemes.{Lexeme, number_of, is_terminal}
+use Rattle.cj_tokens.specs.Passing.{front, behind}
 use Rattle.cj_tokens.specs.declared.terminal.Terminal.{Terminal}
 use Rattle.cj_tokens.specs.declared.terminal.Terminal.TheVariants.{End, Fun, CloseParen, CloseBrace, Comma, Semicolon, Colon}
 use Rattle.cj_reader.specs.Scopes.{Head}

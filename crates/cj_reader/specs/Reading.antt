@@ -14,14 +14,16 @@ use Rattle.cj_ir.specs.declared.language.Instr.TheVariants as instrs
 use Rattle.cj_ir.specs.declared.language.Line.{Line}
 use Rattle.cj_ir.specs.declared.language.Function.{Function}
 use Rattle.cj_ir.specs.declared.language.Program.{Program}
-use Rattle.cj_tokens.specs.Lexemes.{Lexeme, is_terminal, front, behind}
+use Rattle.cj_tokens.specs.Lexemes.{Lexeme, is_terminal}
+use Rattle.cj_tokens.specs.Passing.{front, behind}
 use Rattle.cj_tokens.specs.declared.terminal.Terminal.{Terminal}
 use Rattle.cj_tokens.specs.declared.terminal.Terminal.TheVariants as terminal
 use Rattle.cj_tokens.specs.declared.refusal.Kind.{Kind}
 use Rattle.cj_tokens.specs.declared.refusal.Kind.TheVariants.{Syntax, TooMany, NameTwice, Range, LabelTwice, NoEntry, NoRegister, NoLabel, NoFunction, Arguments}
 use Rattle.cj_tokens.specs.declared.refusal.Refused.{Refused}
-use Rattle.cj_grammar.specs.Grammar.{◌>>=◌}
-use Rattle.cj_grammar.specs.Reading.{offence, Read, found, each_at}
+use Rattle.cj_grammar.specs.OneAhead.{◌>>=◌}
+use Rattle.cj_grammar.specs.Reading.{offence}
+use Rattle.cj_grammar.specs.Readers.{Read, found, each_at}
 use Rattle.cj_reader.specs.declared.scope.Callee.{Callee}
 use Rattle.cj_reader.specs.declared.calls.Called.{Called}
 use Rattle.cj_reader.specs.declared.declarations.Declared.{Declared}

@@ -3,9 +3,10 @@
 ghost use Rattle.std.specs.Prelude.{◌≡◌, ◌+◌, Ok, cond};
 ghost use Rattle.cj_tokens.specs.Seen.{seen};
 ghost use Rattle.cj_tokens.specs.Left.{left};
-ghost use Rattle.cj_tokens.specs.Lexemes.{is_terminal, front};
+ghost use Rattle.cj_tokens.specs.Lexemes.{is_terminal};
+ghost use Rattle.cj_tokens.specs.Passing.{front};
 ghost use Rattle.cj_tokens.specs.declared.terminal.Terminal.TheVariants.{Comma};
-ghost use Rattle.cj_grammar.specs.Reading.{Found};
+ghost use Rattle.cj_grammar.specs.Readers.{Found};
 ghost use Rattle.cj_reader.specs.Prescans.{ends_list, count_at};
 
 use crate::memory::one_more;

@@ -2,7 +2,7 @@
 
 ghost use Rattle.std.specs.Prelude.{◌≡◌, ◌≤◌, length, IfOk};
 ghost use Rattle.cj_tokens.specs.Left.{left};
-ghost use Rattle.cj_grammar.specs.Reading.{Gives};
+ghost use Rattle.cj_grammar.specs.Readers.{Gives};
 ghost use Rattle.cj_reader.specs.Reading.{declared_at};
 
 use crate::counts::count_items;

@@ -5,7 +5,7 @@ ghost use Rattle.cj_tokens.specs.Words.{is_free_word};
 ghost use Rattle.cj_tokens.specs.Seen.{seen};
 ghost use Rattle.cj_tokens.specs.Left.{left};
 ghost use Rattle.cj_tokens.specs.declared.terminal.Terminal.TheVariants as terminal;
-ghost use Rattle.cj_grammar.specs.Reading.{Found, Gives, each_at};
+ghost use Rattle.cj_grammar.specs.Readers.{Found, Gives, each_at};
 ghost use Rattle.cj_reader.specs.Known.{function_in, Grows};
 ghost use Rattle.cj_reader.specs.Reading.{is_earlier, function_name_at, code_at, function_at, one_more_at};
 

@@ -2,7 +2,7 @@
 
 ghost use Rattle.std.specs.Prelude.{◌≡◌};
 ghost use Rattle.cj_tokens.specs.Left.{left};
-ghost use Rattle.cj_grammar.specs.Reading.{Gives};
+ghost use Rattle.cj_grammar.specs.Readers.{Gives};
 ghost use Rattle.cj_reader.specs.Known.{scope_in};
 ghost use Rattle.cj_reader.specs.Reading.{nop_at, op_at, cond_at, call_at, return_at, print_at, load_at, store_at, fail_at, instr_at};
 

@@ -3,7 +3,7 @@
 ghost use Rattle.std.specs.Prelude.{◌≡◌, ◌≤◌, length, []};
 ghost use Rattle.cj_tokens.specs.Seen.{seen};
 ghost use Rattle.cj_tokens.specs.Left.{left};
-ghost use Rattle.cj_grammar.specs.Reading.{Found, Gives, each_at};
+ghost use Rattle.cj_grammar.specs.Readers.{Found, Gives, each_at};
 ghost use Rattle.cj_reader.specs.Known.{scope_in, Grows};
 ghost use Rattle.cj_reader.specs.Reading.{is_before, line_number_at, line_at, one_more_at, body_at};
 

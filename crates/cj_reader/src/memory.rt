@@ -1,7 +1,7 @@
 //! Want of memory among the errors of a reader.
 
 ghost use Rattle.std.specs.Prelude.{◌≡◌, ◌+◌, Ok, Err, IfOk, IfErr};
-ghost use Rattle.cj_grammar.specs.Reading.{Found};
+ghost use Rattle.cj_grammar.specs.Readers.{Found};
 ghost use Rattle.cj_tokens.specs.declared.refusal.ParseError.TheVariants as parse;
 
 use cj_ir::NoMemory;

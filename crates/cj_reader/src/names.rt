@@ -4,7 +4,7 @@ ghost use Rattle.std.specs.Prelude.{◌≡◌, ◌≤◌, ◌<◌, length, [], I
 ghost use Rattle.std.specs.List.{list_any};
 ghost use Rattle.std.specs.Str.{bytes_eq};
 ghost use Rattle.cj_tokens.specs.Left.{left};
-ghost use Rattle.cj_grammar.specs.Reading.{Gives, each_at};
+ghost use Rattle.cj_grammar.specs.Readers.{Gives, each_at};
 ghost use Rattle.cj_reader.specs.Known.{Grows};
 ghost use Rattle.cj_reader.specs.Reading.{name_at, next_name_at, names_at, others_at, one_more_at};
 

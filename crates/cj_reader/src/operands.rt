@@ -3,8 +3,8 @@
 ghost use Rattle.std.specs.Prelude.{◌≡◌, ◌<◌, length, option_copied, IfSome};
 ghost use Rattle.cj_tokens.specs.Seen.{seen};
 ghost use Rattle.cj_tokens.specs.Left.{left};
-ghost use Rattle.cj_tokens.specs.Lexemes.{front};
-ghost use Rattle.cj_grammar.specs.Reading.{Found, Gives};
+ghost use Rattle.cj_tokens.specs.Passing.{front};
+ghost use Rattle.cj_grammar.specs.Readers.{Found, Gives};
 ghost use Rattle.cj_reader.specs.Scopes.{name_place};
 ghost use Rattle.cj_reader.specs.Operands.{is_line_number};
 ghost use Rattle.cj_reader.specs.Known.{scope_in};

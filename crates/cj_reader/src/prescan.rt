@@ -3,7 +3,7 @@
 ghost use Rattle.std.specs.Prelude.{◌≡◌, ℤ, List, ◌++◌, OnOk, IfOk, IfErr};
 ghost use Rattle.cj_tokens.specs.Seen.{seen};
 ghost use Rattle.cj_tokens.specs.Left.{left};
-ghost use Rattle.cj_tokens.specs.Lexemes.{front, behind};
+ghost use Rattle.cj_tokens.specs.Passing.{front, behind};
 ghost use Rattle.cj_tokens.specs.declared.refusal.ParseError.TheVariants as parse;
 ghost use Rattle.cj_reader.specs.Scopes.{Head};
 ghost use Rattle.cj_reader.specs.Prescans.{ends_body, numbered, numbers_at, head_at, ends_functions, headed, heads_at};

@@ -4,7 +4,7 @@ ghost use Rattle.std.specs.Prelude.{◌≡◌, List, OnErr};
 ghost use Rattle.cj_tokens.specs.Left.{left};
 ghost use Rattle.cj_tokens.specs.Lexemes.{Lexeme};
 ghost use Rattle.cj_grammar.specs.Shapes.{GoesPast, HasFunctions};
-ghost use Rattle.cj_grammar.specs.Reading.{Gives, reads};
+ghost use Rattle.cj_grammar.specs.Readers.{Gives, reads};
 ghost use Rattle.cj_reader.specs.Meaning.{program_offences, program_of};
 ghost use Rattle.cj_reader.specs.Reading.{program_at};
 

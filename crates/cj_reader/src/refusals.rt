@@ -1,7 +1,7 @@
 //! Offences of tokens.
 
 ghost use Rattle.cj_tokens.specs.Seen.{seen};
-ghost use Rattle.cj_grammar.specs.Reading.{Found};
+ghost use Rattle.cj_grammar.specs.Readers.{Found};
 ghost use Rattle.cj_reader.specs.Reading.{refuse_if};
 
 use cj_grammar::refused;

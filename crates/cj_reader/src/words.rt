@@ -6,7 +6,7 @@ ghost use Rattle.cj_ir.specs.Texts.{is_text_byte};
 ghost use Rattle.cj_tokens.specs.Words.{is_free_word};
 ghost use Rattle.cj_tokens.specs.Seen.{seen};
 ghost use Rattle.cj_tokens.specs.declared.terminal.Terminal.TheVariants as terminal;
-ghost use Rattle.cj_grammar.specs.Reading.{Found};
+ghost use Rattle.cj_grammar.specs.Readers.{Found};
 ghost use Rattle.cj_reader.specs.Operands.{is_long};
 ghost use Rattle.cj_reader.specs.Reading.{word_at, text_at};
 

@@ -4,12 +4,14 @@ use Rattle.std.specs.Prelude.{Some, None, map, flat_map, unsigned_abs, nat_eq}
 use Rattle.std.proofs.lemmas.Bool.{eqb-true}
 use Rattle.std.proofs.lemmas.List.{length-map}
 use Rattle.cj_ir.specs.declared.language.Function.{Function}
-use Rattle.cj_tokens.specs.Lexemes.{Lexeme, front, behind, is_terminal, Is, number_of}
+use Rattle.cj_tokens.specs.Lexemes.{Lexeme, is_terminal, Is, number_of}
+use Rattle.cj_tokens.specs.Passing.{front, behind}
 use Rattle.cj_tokens.specs.declared.refusal.Refused.{Refused}
 use Rattle.cj_tokens.specs.declared.terminal.Terminal.{Terminal}
 use Rattle.cj_tokens.specs.declared.terminal.Terminal.TheVariants as terminal
-use Rattle.cj_grammar.specs.Grammar.{Tree, leaves, Leaf, tok, ◌>>=◌}
-use Rattle.cj_grammar.specs.Reading.{Read, reads}
+use Rattle.cj_grammar.specs.Grammar.{Tree, leaves, Leaf, tok}
+use Rattle.cj_grammar.specs.OneAhead.{◌>>=◌}
+use Rattle.cj_grammar.specs.Readers.{Read, reads}
 use Rattle.cj_grammar.specs.Rules.{numbers, begun}
 use Rattle.cj_grammar.proofs.ReadsLaws.{reads_then, reads_last}
 use Rattle.cj_script.proofs.Turns.{numbers_stop, behind_stop}

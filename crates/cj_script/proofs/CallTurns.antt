@@ -2,7 +2,8 @@
 use Rattle.std.proofs.Common.{◌≡◌, ℕ, ◌+◌, ◌<◌, ◌≤◌, pos, Bool, true, false, cond, List, [], ◌∷◌, ◌++◌, length, Ok, Err, refl, arith}
 use Rattle.std.specs.Prelude.{nat_le, unsigned_abs}
 use Rattle.std.proofs.lemmas.List.Sums.{sum_by_push}
-use Rattle.cj_tokens.specs.Lexemes.{Lexeme, front, behind, is_terminal}
+use Rattle.cj_tokens.specs.Lexemes.{Lexeme, is_terminal}
+use Rattle.cj_tokens.specs.Passing.{front, behind}
 use Rattle.cj_tokens.specs.declared.terminal.Terminal.TheVariants as terminal
 use Rattle.cj_tokens.specs.declared.refusal.Kind.TheVariants.{TooMany}
 use Rattle.cj_tokens.specs.declared.refusal.Refused.{Refused}

@@ -4,12 +4,14 @@ use Rattle.std.specs.Prelude.{Some, None, map, nat_le}
 use Rattle.std.proofs.lemmas.Int.{ints}
 use Rattle.cj_ir.specs.declared.language.Function.{Function}
 use Rattle.cj_ir.specs.declared.script.ScriptCall.{ScriptCall}
-use Rattle.cj_tokens.specs.Lexemes.{Lexeme, front, behind}
+use Rattle.cj_tokens.specs.Lexemes.{Lexeme}
+use Rattle.cj_tokens.specs.Passing.{front, behind}
 use Rattle.cj_tokens.specs.declared.refusal.Kind.{Kind}
 use Rattle.cj_tokens.specs.declared.refusal.Kind.TheVariants.{TooMany}
 use Rattle.cj_tokens.specs.declared.refusal.Refused.{Refused}
 use Rattle.cj_grammar.specs.Grammar.{Tree, leaves}
-use Rattle.cj_grammar.specs.Reading.{Read, reads, each_offends, offends_if, offence}
+use Rattle.cj_grammar.specs.Reading.{each_offends, offends_if, offence}
+use Rattle.cj_grammar.specs.Readers.{Read, reads}
 use Rattle.cj_grammar.specs.Rules.{begun, script_call, script_calls}
 use Rattle.cj_script.specs.Meaning.{out_of_range, limit_offences, callee_offences, begun_offences, begun_of, limit_of, call_limit, spent_by, call_offences, call_of, calls_offences, calls_of}
 use Rattle.cj_script.specs.Reading.{is_call, limits, call_at, calls_at}

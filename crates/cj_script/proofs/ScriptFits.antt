@@ -9,13 +9,15 @@ use Rattle.cj_ir.specs.declared.language.Program.{Program}
 use Rattle.cj_ir.specs.declared.script.Script.{Script}
 use Rattle.cj_ir.specs.declared.script.ScriptCall.{ScriptCall}
 use Rattle.cj_ir.specs.declared.script.Setup.{Setup}
-use Rattle.cj_tokens.specs.Lexemes.{Lexeme, front, behind, is_terminal}
+use Rattle.cj_tokens.specs.Lexemes.{Lexeme, is_terminal}
+use Rattle.cj_tokens.specs.Passing.{front, behind}
 use Rattle.cj_tokens.specs.declared.refusal.Kind.TheVariants.{TooMany}
 use Rattle.cj_tokens.specs.declared.refusal.ParseError.{ParseError}
 use Rattle.cj_tokens.specs.declared.refusal.Refused.{Refused}
 use Rattle.cj_tokens.specs.declared.terminal.Terminal.TheVariants as terminal
-use Rattle.cj_grammar.specs.Grammar.{◌>>=◌}
-use Rattle.cj_grammar.specs.Reading.{Read, Gives, offence}
+use Rattle.cj_grammar.specs.OneAhead.{◌>>=◌}
+use Rattle.cj_grammar.specs.Reading.{offence}
+use Rattle.cj_grammar.specs.Readers.{Read, Gives}
 use Rattle.cj_script.specs.Fitting.{FitsSetup, FitsCall, FitsScript}
 use Rattle.cj_script.specs.Meaning.{function_named, id_named, out_of_range, function_offences, callee_offences, limit_offences, parameter_offences, parameter_of, label_offences, label_of}
 use Rattle.cj_script.specs.Reading.{judged, numbers_at, behind_numbers, cells_at, limit_at, begun_at, many_at, all_at, is_call, limits, call_at, calls_at, guess_at, cold_at, warm_at, setup_at, is_setup, next_setup, setups_at, script_at}

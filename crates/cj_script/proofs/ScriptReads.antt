@@ -3,11 +3,12 @@ use Rattle.std.proofs.Common.{◌≡◌, true, false, List, [], ◌∷◌, ◌++
 use Rattle.std.specs.Prelude.{nat_eq, flat_map}
 use Rattle.cj_ir.specs.declared.language.Function.{Function}
 use Rattle.cj_ir.specs.declared.language.Program.{Program}
-use Rattle.cj_tokens.specs.Lexemes.{Lexeme, front, behind, is_terminal, number_of}
+use Rattle.cj_tokens.specs.Lexemes.{Lexeme, is_terminal, number_of}
+use Rattle.cj_tokens.specs.Passing.{front, behind}
 use Rattle.cj_tokens.specs.declared.terminal.Terminal.{Terminal}
 use Rattle.cj_tokens.specs.declared.terminal.Terminal.TheVariants as terminal
 use Rattle.cj_grammar.specs.Grammar.{Tree, leaves}
-use Rattle.cj_grammar.specs.Reading.{reads}
+use Rattle.cj_grammar.specs.Readers.{reads}
 use Rattle.cj_grammar.specs.Rules.{script_call, setups, script_calls, script}
 use Rattle.cj_grammar.proofs.ReadsLaws.{reads_then, reads_last}
 use Rattle.cj_script.specs.Meaning.{setups_offences, setups_of, calls_offences, calls_of, script_offences, script_of}

@@ -3,10 +3,11 @@ use Rattle.std.proofs.Common.{◌≡◌, pos, true, false, List, [], ◌++◌, r
 use Rattle.std.specs.Prelude.{unsigned_abs}
 use Rattle.cj_ir.specs.declared.language.Function.{Function}
 use Rattle.cj_ir.specs.declared.script.Setup.{Setup}
-use Rattle.cj_tokens.specs.Lexemes.{Lexeme, front, behind, is_terminal}
+use Rattle.cj_tokens.specs.Lexemes.{Lexeme, is_terminal}
+use Rattle.cj_tokens.specs.Passing.{front, behind}
 use Rattle.cj_tokens.specs.declared.terminal.Terminal.TheVariants as terminal
 use Rattle.cj_grammar.specs.Grammar.{Tree, leaves}
-use Rattle.cj_grammar.specs.Reading.{reads}
+use Rattle.cj_grammar.specs.Readers.{reads}
 use Rattle.cj_grammar.specs.Rules.{guess_setup, edge, cold_setup, warm_setup, setup, setups}
 use Rattle.cj_script.specs.Meaning.{function_named, id_named, out_of_range, function_offences, parameter_offences, parameter_of, label_offences, label_of, guess_offences, guess_of, cold_offences, cold_of, edge_of, warm_offences, warm_of, setup_offences, setup_of, setups_offences, setups_of}
 use Rattle.cj_script.specs.Reading.{guess_at, cold_at, edge_at, warm_at, setup_at, is_setup, next_setup, setups_at}

@@ -8,12 +8,14 @@ use Rattle.cj_ir.specs.declared.script.Script.{Script}
 use Rattle.cj_ir.specs.declared.script.ScriptCall.{ScriptCall}
 use Rattle.cj_ir.specs.declared.script.Setup.{Setup}
 use Rattle.cj_ir.specs.declared.script.Setup.TheVariants as setups
-use Rattle.cj_tokens.specs.Lexemes.{Lexeme, is_terminal, front, behind}
+use Rattle.cj_tokens.specs.Lexemes.{Lexeme, is_terminal}
+use Rattle.cj_tokens.specs.Passing.{front, behind}
 use Rattle.cj_tokens.specs.declared.refusal.Kind.TheVariants.{TooMany}
 use Rattle.cj_tokens.specs.declared.refusal.Refused.{Refused}
 use Rattle.cj_tokens.specs.declared.terminal.Terminal.TheVariants as terminal
-use Rattle.cj_grammar.specs.Grammar.{◌>>=◌}
-use Rattle.cj_grammar.specs.Reading.{Read, offence}
+use Rattle.cj_grammar.specs.OneAhead.{◌>>=◌}
+use Rattle.cj_grammar.specs.Reading.{offence}
+use Rattle.cj_grammar.specs.Readers.{Read}
 use Rattle.cj_script.specs.Meaning.{function_named, id_named, out_of_range, function_offences, callee_offences, limit_offences, parameter_offences, parameter_of, label_offences, label_of}
 
 -- the first offence, or a value

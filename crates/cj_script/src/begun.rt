@@ -5,7 +5,7 @@ ghost use Rattle.cj_ir.specs.Texts.{is_name};
 ghost use Rattle.cj_tokens.specs.Left.{left};
 ghost use Rattle.cj_tokens.specs.Seen.{seen};
 ghost use Rattle.cj_grammar.specs.Grammar.{Tree, leaves};
-ghost use Rattle.cj_grammar.specs.Reading.{Gives, reads};
+ghost use Rattle.cj_grammar.specs.Readers.{Gives, reads};
 ghost use Rattle.cj_grammar.specs.Rules.{begun};
 ghost use Rattle.cj_tokens.specs.Lexemes.{Lexeme};
 ghost use Rattle.cj_script.specs.Fitting.{FitsCall};

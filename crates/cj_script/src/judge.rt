@@ -2,7 +2,7 @@
 
 ghost use Rattle.std.specs.Prelude.{◌≡◌, ◌+◌, ◌<◌, ◌≤◌, pos, length, position, slice_get, unsigned_abs, Some, None, IfSome, IfOk};
 ghost use Rattle.cj_tokens.specs.Seen.{seen};
-ghost use Rattle.cj_grammar.specs.Reading.{Found};
+ghost use Rattle.cj_grammar.specs.Readers.{Found};
 ghost use Rattle.cj_script.specs.Meaning.{is_named, function_named, id_named, out_of_range, limit_offences, function_offences, callee_offences};
 ghost use Rattle.cj_script.specs.Reading.{judged};
 

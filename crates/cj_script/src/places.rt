@@ -2,7 +2,7 @@
 
 ghost use Rattle.std.specs.Prelude.{◌≡◌, ◌<◌, ◌≤◌, ◌^◌, length, position, slice_get, Some, IfSome};
 ghost use Rattle.cj_tokens.specs.Seen.{seen};
-ghost use Rattle.cj_grammar.specs.Reading.{Found};
+ghost use Rattle.cj_grammar.specs.Readers.{Found};
 ghost use Rattle.cj_script.specs.Meaning.{is_numbered, is_cond, parameter_named, parameter_offences, parameter_of, label_offences, label_of};
 ghost use Rattle.cj_script.specs.Reading.{judged};
 

@@ -5,7 +5,7 @@ ghost use Rattle.cj_tokens.specs.Left.{left};
 ghost use Rattle.cj_tokens.specs.Lexemes.{Lexeme, is_terminal};
 ghost use Rattle.cj_tokens.specs.declared.terminal.Terminal.TheVariants.{End};
 ghost use Rattle.cj_grammar.specs.Grammar.{Tree, leaves};
-ghost use Rattle.cj_grammar.specs.Reading.{Gives, reads};
+ghost use Rattle.cj_grammar.specs.Readers.{Gives, reads};
 ghost use Rattle.cj_grammar.specs.Rules.{script};
 ghost use Rattle.cj_script.specs.Fitting.{FitsScript};
 ghost use Rattle.cj_script.specs.Meaning.{script_offences, script_of};

@@ -2,8 +2,8 @@
 
 ghost use Rattle.std.specs.Prelude.{◌≡◌, ◌≤◌, [], length, All};
 ghost use Rattle.cj_tokens.specs.Left.{left};
-ghost use Rattle.cj_tokens.specs.Lexemes.{behind};
-ghost use Rattle.cj_grammar.specs.Reading.{Gives};
+ghost use Rattle.cj_tokens.specs.Passing.{behind};
+ghost use Rattle.cj_grammar.specs.Readers.{Gives};
 ghost use Rattle.cj_script.specs.Reading.{guess_at, cold_at, warm_at, setup_at, is_setup, edge_at, setups_at};
 
 use crate::judge::{function_at, function_id, number_within};

@@ -1,7 +1,7 @@
 -- The words of a code, in format 1. Every item is one word unless it says otherwise, and counts come before their items.
-use Rattle.std.specs.Prelude.{ℕ, suc, List, [], ◌∷◌, ◌++◌, length, ℤ}
+use Rattle.std.specs.Prelude.{ℕ, suc, List, [], ◌∷◌, ◌++◌, length}
 use Rattle.std.specs.List.{flat_map}
-use Rattle.std.specs.Int.{cast_unsigned, w64}
+use Rattle.cj_ir.specs.Values.{value_word}
 use Rattle.cj_ir.specs.declared.language.Operand.{Operand}
 use Rattle.cj_ir.specs.declared.language.Operand.TheVariants as operand
 use Rattle.cj_ir.specs.declared.language.Expr.{Expr}
@@ -19,10 +19,6 @@ use Rattle.cj_draft.specs.declared.instructions.VInstr.TheVariants.{Nop, Op, Mov
 use Rattle.cj_draft.specs.declared.code.Back.{Back}
 use Rattle.cj_draft.specs.declared.code.Place.{Place}
 use Rattle.cj_draft.specs.declared.code.Code.{Code}
-
--- a value's two's complement: the number with the same remainder modulo 2^64
-abbrev pub value_word : ℤ → ℕ
-value_word = cast_unsigned w64
 
 -- the count of the items, then each item
 abbrev pub counted : {A : Type 0} → (A → List ℕ) → List A → List ℕ

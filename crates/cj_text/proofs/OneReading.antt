@@ -9,7 +9,7 @@ use Rattle.cj_tokens.specs.Scan.{lexemes_of}
 use Rattle.cj_tokens.specs.declared.refusal.Refused.{Refused}
 use Rattle.cj_tokens.specs.declared.terminal.Terminal.TheVariants.{End}
 use Rattle.cj_grammar.specs.Grammar.{Tree, leaves}
-use Rattle.cj_grammar.specs.Reading.{reads}
+use Rattle.cj_grammar.specs.Readers.{reads}
 use Rattle.cj_grammar.specs.Rules.{funs, script, input}
 use Rattle.cj_grammar.specs.Shapes.{GoesPast}
 use Rattle.cj_grammar.proofs.FirstBad.{sentence_is_good}

@@ -8,7 +8,7 @@ use Rattle.cj_tokens.specs.Scan.{lexemes_of}
 use Rattle.cj_tokens.specs.declared.refusal.ParseError.{ParseError}
 use Rattle.cj_tokens.specs.declared.refusal.ParseError.TheVariants.{Refused, NoMemory}
 use Rattle.cj_tokens.specs.declared.refusal.Refused as refusal
-use Rattle.cj_grammar.specs.Reading.{Read, reads, Gives, Fails}
+use Rattle.cj_grammar.specs.Readers.{Read, reads, Gives, Fails}
 use Rattle.cj_grammar.specs.Shapes.{GoesPast}
 use Rattle.cj_reader.specs.Meaning.{program_offences, program_of}
 use Rattle.cj_script.specs.Fitting.{FitsScript}

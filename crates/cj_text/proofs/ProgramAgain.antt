@@ -3,7 +3,8 @@ use Rattle.std.proofs.Common.{◌≡◌, ◌∙◌, sym, ap, refl, ℕ, ◌<◌,
 use Rattle.cj_ir.specs.WellFormed.{IsWellFormed}
 use Rattle.cj_ir.specs.declared.language.Function.{Function}
 use Rattle.cj_ir.specs.declared.language.Program.{Program}
-use Rattle.cj_tokens.specs.Lexemes.{Lexeme, Is, front, is_terminal}
+use Rattle.cj_tokens.specs.Lexemes.{Lexeme, Is, is_terminal}
+use Rattle.cj_tokens.specs.Passing.{front}
 use Rattle.cj_tokens.specs.Printed.{lexed}
 use Rattle.cj_tokens.specs.Scan.{next_line, lexemes_of}
 use Rattle.cj_tokens.specs.declared.terminal.Terminal.TheVariants.{Fun, End}

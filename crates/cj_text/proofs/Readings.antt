@@ -3,7 +3,8 @@ use Rattle.std.proofs.Common.{◌≡◌, refl, ℕ, false, List, [], ◌++◌, R
 use Rattle.cj_ir.specs.declared.language.Program.{Program}
 use Rattle.cj_ir.specs.declared.script.Input.{Input}
 use Rattle.cj_ir.specs.declared.script.Script.{Script}
-use Rattle.cj_tokens.specs.Lexemes.{Lexeme, Is, front, is_terminal}
+use Rattle.cj_tokens.specs.Lexemes.{Lexeme, Is, is_terminal}
+use Rattle.cj_tokens.specs.Passing.{front}
 use Rattle.cj_tokens.specs.Scan.{lexemes_of}
 use Rattle.cj_tokens.specs.declared.terminal.Terminal.TheVariants.{Fun, Calls}
 use Rattle.cj_tokens.specs.declared.refusal.Refused as refusal

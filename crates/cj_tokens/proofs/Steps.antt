@@ -1,8 +1,8 @@
 -- What is left once the next token is taken, or given.
 use Rattle.std.proofs.Common.{◌≡◌, ℕ, Bool, true, false, cond, List, [], ◌∷◌, map, drop, Ok, Err, refl, nat_eq}
-use Rattle.cj_tokens.specs.Lexemes.{Lexeme, Sign, fits, is_terminal, number_of, front, behind}
+use Rattle.cj_tokens.specs.Lexemes.{Lexeme, Sign, fits, is_terminal, number_of}
+use Rattle.cj_tokens.specs.Passing.{front, behind, pass}
 use Rattle.cj_tokens.specs.Scan.{Item, items, items_from, lexeme_in}
-use Rattle.cj_tokens.specs.Passing.{pass}
 use Rattle.cj_tokens.specs.Pieces.{given_as, is_passed, next_of, past_items, past_lexemes}
 use Rattle.cj_tokens.specs.declared.terminal.Terminal.{Terminal}
 use Rattle.cj_tokens.specs.declared.terminal.Terminal.TheVariants.{End, BadCharacter, BadNumber}

@@ -1,5 +1,5 @@
 -- The tokens of a text, as the grammar sees them.
-use Rattle.std.specs.Prelude.{ℕ, ℤ, pos, Bool, ◌&&◌, List, [], ◌∷◌, nat_eq}
+use Rattle.std.specs.Prelude.{ℕ, ℤ, Bool, ◌&&◌, List, nat_eq}
 use Rattle.std.specs.Str.{bytes_eq}
 use Rattle.cj_tokens.specs.declared.terminal.Terminal.{Terminal}
 use Rattle.cj_tokens.specs.declared.terminal.Terminal.TheVariants.{End, BadCharacter, BadNumber, Name, Number, Text, Fun, Nop, Op, Cond, Call, Return, Print, Load, Store, Fail, Neg, Eqz, Calls, Guess, Cold, Then, Else, Warm, Memory, Limit, Events, Begin, Step, Compile, Anchors, Assume, Delay, Const, Inline, When, Never, Keep, OpenParen, CloseParen, OpenBrace, CloseBrace, OpenBracket, CloseBracket, Comma, Semicolon, Colon, Equals, Plus, Minus, Star, Slash, Percent, Less, Arrow}
@@ -81,19 +81,3 @@ is_terminal k t = nat_eq (number_of t.terminal) (number_of k)
 abbrev pub fits : Sign → Lexeme → Bool
 fits (Is k) t = is_terminal k t
 fits (Spelled word) t = is_terminal Name t && bytes_eq t.text word
-
--- whether some token may fit both
-abbrev pub clash : Sign → Sign → Bool
-clash (Is j) (Is k) = nat_eq (number_of j) (number_of k)
-clash (Is j) (Spelled word) = nat_eq (number_of j) (number_of Name)
-clash (Spelled word) (Is k) = nat_eq (number_of Name) (number_of k)
-clash (Spelled one) (Spelled other) = bytes_eq one other
-
--- The next token. Behind the last one, which is the end, stands an end of no line.
-unfoldable pub front : List Lexeme → Lexeme
-front [] = record { terminal = End; line = 0; text = []; number = pos 0 }
-front (t ∷ ts) = t
-
-unfoldable pub behind : List Lexeme → List Lexeme
-behind [] = []
-behind (t ∷ ts) = ts

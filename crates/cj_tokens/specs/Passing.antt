@@ -1,6 +1,16 @@
--- Passing one token.
-use Rattle.std.specs.Prelude.{cond, List, [], ◌∷◌, Result, Ok, Err}
+-- The next token, and passing it.
+use Rattle.std.specs.Prelude.{pos, cond, List, [], ◌∷◌, Result, Ok, Err}
 use Rattle.cj_tokens.specs.Lexemes.{Lexeme, Sign, fits}
+use Rattle.cj_tokens.specs.declared.terminal.Terminal.TheVariants.{End}
+
+-- The next token. Behind the last one, which is the end, stands an end of no line.
+unfoldable pub front : List Lexeme → Lexeme
+front [] = record { terminal = End; line = 0; text = []; number = pos 0 }
+front (t ∷ ts) = t
+
+unfoldable pub behind : List Lexeme → List Lexeme
+behind [] = []
+behind (t ∷ ts) = ts
 
 -- What is left behind the next token, where it fits; where it doesn't, or there is none, everything is.
 abbrev pub pass : Sign → List Lexeme → Result (List Lexeme) (List Lexeme)

@@ -30,12 +30,12 @@ impl<'a> Tokens<'a> {
     ghost use Rattle.std.specs.List.{list_all};
     ghost use Rattle.cj_ir.specs.Texts.{is_text_byte};
     ghost use Rattle.cj_tokens.specs.Ends.{HasOneEnd};
-    ghost use Rattle.cj_tokens.specs.Lexemes.{front, behind, is_terminal, Is};
+    ghost use Rattle.cj_tokens.specs.Lexemes.{is_terminal, Is};
+    ghost use Rattle.cj_tokens.specs.Passing.{front, behind, pass, ended};
     ghost use Rattle.cj_tokens.specs.Scan.{items_of, lexemes_of, items, items_from};
     ghost use Rattle.cj_tokens.specs.Seen.{seen, placed};
     ghost use Rattle.cj_tokens.specs.Left.{left, stream};
     ghost use Rattle.cj_tokens.specs.Words.{is_free_word, is_well};
-    ghost use Rattle.cj_tokens.specs.Passing.{pass, ended};
     ghost use Rattle.cj_tokens.specs.Pieces.{next_of, past_items, past_lexemes};
     ghost use Rattle.cj_tokens.specs.declared.terminal.Terminal.TheVariants.{Name, Text};
 
@@ -56,7 +56,7 @@ impl<'a> Tokens<'a> {
     ///
     /// A name's bytes are a letter or `_`, then letters, digits and `_`, of any number, and no keyword's; a text's are
     /// printable, and none is a quote.
-    #[tactic(auto, using(crate::proofs::Wells::well_name, crate::proofs::Wells::well_text), unfolding(crate::specs::Left::left, crate::specs::Left::stream, crate::specs::Scan::items_from, crate::specs::Lexemes::front))]
+    #[tactic(auto, using(crate::proofs::Wells::well_name, crate::proofs::Wells::well_text), unfolding(crate::specs::Left::left, crate::specs::Left::stream, crate::specs::Scan::items_from, crate::specs::Passing::front))]
     pub fn front(&self) -> Lexeme<'a>
         ensures token { seen result ≡ front (left self.now) }
         ensures name { result.terminal ≡ Name → is_free_word result.text.now ≡ true }

@@ -1,6 +1,6 @@
 use Rattle.std.proofs.Common.{◌≡◌, length}
 use Rattle.cj_tokens.specs.Left.{left}
-use Rattle.cj_grammar.specs.Grammar.{eat}
+use Rattle.cj_grammar.specs.OneAhead.{eat}
 use Rattle.cj_events.specs.Rules.{events}
 use Rattle.cj_events.proofs.event_grammar.pass_events.Given as goal
 

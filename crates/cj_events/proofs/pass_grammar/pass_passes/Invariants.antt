@@ -1,6 +1,6 @@
 use Rattle.std.proofs.Common.{◌≡◌, length}
 use Rattle.cj_tokens.specs.Left.{left}
-use Rattle.cj_grammar.specs.Grammar.{eat}
+use Rattle.cj_grammar.specs.OneAhead.{eat}
 use Rattle.cj_events.specs.Rules.{passes}
 use Rattle.cj_events.proofs.pass_grammar.pass_passes.Given as goal
 

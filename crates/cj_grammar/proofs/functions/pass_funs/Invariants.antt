@@ -1,6 +1,6 @@
 use Rattle.std.proofs.Common.{◌≡◌, length}
 use Rattle.cj_tokens.specs.Left.{left}
-use Rattle.cj_grammar.specs.Grammar.{eat}
+use Rattle.cj_grammar.specs.OneAhead.{eat}
 use Rattle.cj_grammar.specs.Rules.{more_funs, funs}
 use Rattle.cj_grammar.proofs.functions.pass_funs.Given as goal
 

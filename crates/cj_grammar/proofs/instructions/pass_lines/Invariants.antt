@@ -1,6 +1,6 @@
 use Rattle.std.proofs.Common.{◌≡◌, length}
 use Rattle.cj_tokens.specs.Left.{left}
-use Rattle.cj_grammar.specs.Grammar.{eat}
+use Rattle.cj_grammar.specs.OneAhead.{eat}
 use Rattle.cj_grammar.specs.Rules.{lines}
 use Rattle.cj_grammar.proofs.instructions.pass_lines.Given as goal
 

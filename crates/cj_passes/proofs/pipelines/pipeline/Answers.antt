@@ -8,7 +8,8 @@ use Rattle.cj_draft.specs.declared.code.Code.{Code}
 use Rattle.cj_draft.specs.declared.passes.Pass.{Pass}
 use Rattle.cj_draft.specs.declared.passes.Skipped.{Skipped}
 use Rattle.cj_passes.specs.Lowering.{lowered}
-use Rattle.cj_passes.specs.Pipeline.{ArePassed, Finished, IsPassStep}
+use Rattle.cj_passes.specs.Pipeline.{ArePassed, Finished}
+use Rattle.cj_passes.specs.OnePass.{IsPassStep}
 use Rattle.cj_passes.proofs.Functions.{pass_keeps}
 use Rattle.cj_passes.proofs.Steps.{one_pass_more}
 use Rattle.cj_passes.proofs.pipelines.pipeline.Goals as goal

@@ -1,6 +1,7 @@
 use Rattle.std.proofs.Common.{◌≡◌, ◌+◌, Ok, cond, true, false, sym, ap, ◌∙◌, add-zero}
 use Rattle.cj_tokens.specs.Left.{left}
-use Rattle.cj_tokens.specs.Lexemes.{is_terminal, front}
+use Rattle.cj_tokens.specs.Lexemes.{is_terminal}
+use Rattle.cj_tokens.specs.Passing.{front}
 use Rattle.cj_tokens.specs.declared.terminal.Terminal.TheVariants.{Comma}
 use Rattle.cj_reader.specs.Prescans.{ends_list}
 use Rattle.cj_reader.proofs.Turns.{ok_same, count_goes, count_ends, list_shorter}

@@ -1,6 +1,6 @@
 use Rattle.std.proofs.Common.{◌≡◌, ◌-◌, []}
 use Rattle.cj_tokens.specs.Left.{left}
-use Rattle.cj_grammar.specs.Reading.{each_at}
+use Rattle.cj_grammar.specs.Readers.{each_at}
 use Rattle.cj_reader.specs.Known.{scope_in}
 use Rattle.cj_reader.specs.Reading.{line_at}
 use Rattle.cj_reader.proofs.lines.read_lines.Given as goal

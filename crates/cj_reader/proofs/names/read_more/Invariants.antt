@@ -1,6 +1,6 @@
 use Rattle.std.proofs.Common.{◌≡◌, ◌-◌, ◌≤◌, length}
 use Rattle.cj_tokens.specs.Left.{left}
-use Rattle.cj_grammar.specs.Reading.{each_at}
+use Rattle.cj_grammar.specs.Readers.{each_at}
 use Rattle.cj_reader.specs.Reading.{next_name_at}
 use Rattle.cj_reader.proofs.names.read_more.Given as goal
 

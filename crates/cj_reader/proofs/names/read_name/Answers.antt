@@ -4,10 +4,11 @@ use Rattle.std.specs.List.{list_any}
 use Rattle.std.specs.Str.{bytes_eq}
 use Rattle.cj_tokens.specs.Seen.{seen}
 use Rattle.cj_tokens.specs.Left.{left}
-use Rattle.cj_tokens.specs.Lexemes.{Lexeme, behind}
+use Rattle.cj_tokens.specs.Lexemes.{Lexeme}
+use Rattle.cj_tokens.specs.Passing.{behind}
 use Rattle.cj_tokens.specs.declared.refusal.Kind.TheVariants.{TooMany, NameTwice}
-use Rattle.cj_grammar.specs.Grammar.{◌>>=◌}
-use Rattle.cj_grammar.specs.Reading.{Gives, Read}
+use Rattle.cj_grammar.specs.OneAhead.{◌>>=◌}
+use Rattle.cj_grammar.specs.Readers.{Gives, Read}
 use Rattle.cj_reader.specs.Operands.{is_long}
 use Rattle.cj_reader.specs.Reading.{word_at, name_at}
 use Rattle.cj_reader.proofs.Decided.{passed, found_gives}

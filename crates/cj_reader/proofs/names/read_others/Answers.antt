@@ -1,8 +1,9 @@
 use Rattle.std.proofs.Common.{◌≡◌, ℕ, List, true, sym, ap, ◌∙◌, subst}
 use Rattle.cj_tokens.specs.Left.{left}
-use Rattle.cj_tokens.specs.Lexemes.{Lexeme, is_terminal, front, behind}
+use Rattle.cj_tokens.specs.Lexemes.{Lexeme, is_terminal}
+use Rattle.cj_tokens.specs.Passing.{front, behind}
 use Rattle.cj_tokens.specs.declared.terminal.Terminal.TheVariants as terminal
-use Rattle.cj_grammar.specs.Reading.{Gives, Read}
+use Rattle.cj_grammar.specs.Readers.{Gives, Read}
 use Rattle.cj_reader.specs.Prescans.{count_at}
 use Rattle.cj_reader.specs.Reading.{names_at, others_at}
 use Rattle.cj_reader.proofs.Turns.{ok_same}

@@ -2,7 +2,7 @@ use Rattle.std.proofs.Common.{◌≡◌, List, ◌++◌, true, false, sym, ap, �
 use Rattle.std.proofs.lemmas.List.{append-nil}
 use Rattle.cj_tokens.specs.Seen.{seen}
 use Rattle.cj_tokens.specs.Left.{left}
-use Rattle.cj_tokens.specs.Lexemes.{front, behind}
+use Rattle.cj_tokens.specs.Passing.{front, behind}
 use Rattle.cj_reader.specs.Scopes.{Head}
 use Rattle.cj_reader.specs.Prescans.{ends_functions, headed, heads_at}
 use Rattle.cj_reader.specs.Known.{ListsFunctions}

@@ -2,7 +2,7 @@ use Rattle.std.proofs.Common.{◌≡◌, ℤ, List, ◌++◌, true, false, sym, 
 use Rattle.std.proofs.lemmas.List.{append-nil}
 use Rattle.cj_tokens.specs.Seen.{seen}
 use Rattle.cj_tokens.specs.Left.{left}
-use Rattle.cj_tokens.specs.Lexemes.{front, behind}
+use Rattle.cj_tokens.specs.Passing.{front, behind}
 use Rattle.cj_reader.specs.Prescans.{ends_body, numbered, numbers_at}
 use Rattle.cj_reader.specs.Known.{ListsLines}
 use Rattle.cj_reader.proofs.Turns.{numbers_end, numbers_go, body_shorter}

@@ -2,7 +2,7 @@ use Rattle.std.proofs.Common.{◌≡◌, Ok, true, false, sym, ap, ◌∙◌, su
 use Rattle.cj_ir.specs.WellFormed.{IsWellFormed}
 use Rattle.cj_ir.specs.declared.language.Program.{Program}
 use Rattle.cj_tokens.specs.Left.{left}
-use Rattle.cj_grammar.specs.Reading.{Fails, Read}
+use Rattle.cj_grammar.specs.Readers.{Fails, Read}
 use Rattle.cj_reader.proofs.FineProgram.{program_is, read_fine}
 use Rattle.cj_reader.proofs.program.read_program.Goals as goal
 

@@ -2,7 +2,8 @@ use Rattle.std.proofs.Common.{rules, ◌≡◌, true, [], ◌∷◌, ◌++◌, w
 use Rattle.std.proofs.lemmas.List.{append-nil}
 use Rattle.std.proofs.lemmas.Int.{to_z-of_z}
 use Rattle.cj_tokens.specs.Left.{left}
-use Rattle.cj_tokens.specs.Lexemes.{is_terminal, front, behind}
+use Rattle.cj_tokens.specs.Lexemes.{is_terminal}
+use Rattle.cj_tokens.specs.Passing.{front, behind}
 use Rattle.cj_tokens.specs.declared.terminal.Terminal.TheVariants as terminal
 use Rattle.cj_script.specs.Reading.{numbers_at}
 use Rattle.cj_script.proofs.Turns.{numbers_turn, numbers_stop, behind_turn}
