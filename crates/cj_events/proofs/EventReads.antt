@@ -13,6 +13,7 @@ use Rattle.cj_grammar.proofs.ReadsLaws.{reads_last}
 use Rattle.cj_script.specs.Meaning.{function_offences, id_named, begun_offences, begun_of}
 use Rattle.cj_script.proofs.BegunReads.{judged_then, judged_last, other_terminal, begun_reads}
 use Rattle.cj_script.proofs.Turns.{all_reads}
+use Rattle.cj_script.proofs.CallsReads.{refuse_or}
 use Rattle.cj_events.specs.declared.events.Event.{Event}
 use Rattle.cj_events.specs.declared.events.Event.TheVariants.{Begin, Compile}
 use Rattle.cj_events.specs.Meaning.{run_offences, count_offences, passes_offences, passes_of, begin_offences, begin_of, step_offences, step_of, compile_offences, compile_of, event_offences, event_of, events_offences, events_of, history_offences, history_of}
@@ -20,7 +21,6 @@ use Rattle.cj_events.specs.Reading.{is_pass, begin_at, step_at, compiled_at, com
 use Rattle.cj_events.specs.Rules.{passes, begin_event, step_event, compile_event, event, events, history}
 use Rattle.cj_events.specs.Tallies.{runs, limits, counts, compiles, tally_of}
 use Rattle.cj_events.proofs.EventTurns.{next_shorter}
-use Rattle.cj_events.proofs.ManyReads.{refuse_or}
 use Rattle.cj_events.proofs.PassReads.{EndsLists, passes_read}
 
 begin_reads : (functions : List Function) (earlier : List Event) (t : Tree begin_event) (ts : List Lexeme) → begin_at functions (tally_of earlier) (leaves begin_event t ++ ts) ≡ reads (begin_offences functions earlier t) (begin_of functions t) ts

@@ -10,8 +10,8 @@ use Rattle.cj_tokens.specs.declared.terminal.Terminal.TheVariants as terminal
 use Rattle.cj_grammar.specs.Reading.{offence}
 use Rattle.cj_script.specs.Meaning.{function_offences, id_named}
 use Rattle.cj_script.specs.Reading.{begun_at}
-use Rattle.cj_events.proofs.BegunTokens.{begun_within}
 use Rattle.cj_script.proofs.Turns.{behind_within, Within, ok_within, err_within, judged_within, then_within, cond_within, all_stops, all_fails, all_goes}
+use Rattle.cj_script.proofs.CallTurns.{begun_within}
 use Rattle.cj_events.specs.declared.events.Event.{Event}
 use Rattle.cj_events.specs.declared.tally.Tally.{Tally}
 use Rattle.cj_events.specs.Meaning.{run_offences, count_offences}

@@ -4,7 +4,6 @@ mod LabelTurns
 mod ManyTurns
 mod GuardTurns
 mod PassTurns
-mod BegunTokens
 mod Tallied
 mod EventTurns
 mod ManyReads

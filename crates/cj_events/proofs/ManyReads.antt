@@ -1,19 +1,13 @@
 -- What is read of the tokens of items, where each reads as it means before tokens of some sort.
-use Rattle.std.proofs.Common.{◌≡◌, Bool, true, false, cond, List, [], ◌∷◌, ◌++◌, length, Ok, Err, refl, ◌∙◌, append_assoc, ◌<◌}
+use Rattle.std.proofs.Common.{◌≡◌, Bool, true, false, List, [], ◌∷◌, ◌++◌, length, Ok, refl, ◌∙◌, append_assoc, ◌<◌}
 use Rattle.std.specs.Prelude.{map, flat_map}
 use Rattle.std.proofs.lemmas.List.{append-nil}
 use Rattle.cj_tokens.specs.Lexemes.{Lexeme}
-use Rattle.cj_tokens.specs.declared.refusal.Kind.{Kind}
 use Rattle.cj_tokens.specs.declared.refusal.Refused.{Refused}
-use Rattle.cj_grammar.specs.Reading.{each_offends, offends_if, offence}
+use Rattle.cj_grammar.specs.Reading.{each_offends}
 use Rattle.cj_grammar.specs.Readers.{Read, reads}
 use Rattle.cj_script.specs.Reading.{all_at}
 use Rattle.cj_script.proofs.Turns.{all_stops, all_fails, all_goes}
-
--- a first word that may be one too many, and what stands behind it
-pub refuse_or : {Y : Type 0} (b : Bool) (t : Lexeme) (kind : Kind) (fs : List Refused) (y : Y) (us : List Lexeme) (read : Read Y) → read ≡ reads fs y us → cond b (Err (offence t kind)) read ≡ reads (offends_if b t kind ++ fs) y us
-refuse_or true t kind fs y us read h = refl
-refuse_or false t kind fs y us read h = h
 
 -- an item that begins, and reads as it means
 pub record ReadsItem {X T : Type 0} (more : List Lexeme → Bool) (one : List X → List Lexeme → Read X) (spelled : T → List Lexeme) (offends : List X → T → List Refused) (means : T → X) (earlier : List X) (t : T) (ts : List Lexeme) : Type 0 where

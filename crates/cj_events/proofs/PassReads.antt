@@ -18,13 +18,14 @@ use Rattle.cj_grammar.specs.Rules.{one, ◌▸◌, numbers}
 use Rattle.cj_grammar.proofs.ReadsLaws.{reads_then, reads_last}
 use Rattle.cj_script.proofs.BegunReads.{judged_then, judged_last, other_terminal}
 use Rattle.cj_script.proofs.Turns.{all_reads}
+use Rattle.cj_script.proofs.CallsReads.{refuse_or}
 use Rattle.cj_events.specs.Meaning.{label_of, label_offences, listed_offences, labels_offences, labels_of, register_of, ninth_offences, register_offences, guard_offences, guard_of, guards_offences, guards_of, pass_word_offences, anchors_offences, anchors_of, assume_offences, assume_of, delay_offences, delay_of, const_offences, const_of, inline_offences, inline_of, pass_offences, pass_of, passes_offences, passes_of}
 use Rattle.cj_events.specs.Reading.{is_number, label_at, next_label, labels_at, is_comma, never_at, equation_at, guard_at, next_guard, more_guards_at, guards_at, is_pass, anchors_at, assume_at, delay_at, inline_at, any_pass_at, pass_at, next_pass, passes_at}
 use Rattle.cj_events.specs.Rules.{labels, equation, guard, more_guards, guards, anchors_pass, assume_pass, delay_pass, const_pass, inline_pass, any_pass, passes}
 use Rattle.cj_events.proofs.GuardTurns as guard_turns
 use Rattle.cj_events.proofs.LabelTurns as label_turns
 use Rattle.cj_events.proofs.PassTurns as pass_turns
-use Rattle.cj_events.proofs.ManyReads.{refuse_or, ReadsItem, all_reads_before}
+use Rattle.cj_events.proofs.ManyReads.{ReadsItem, all_reads_before}
 
 -- ---- labels
 

@@ -29,19 +29,3 @@ each_reads one spelled offends means earlier (t ∷ items) ts r =
     let rest : each_at one (length items) (earlier ++ means t ∷ []) us ≡ reads (each_offends offends means (earlier ++ means t ∷ []) items) ((earlier ++ means t ∷ []) ++ map means items) ts = each_reads one spelled offends means (earlier ++ means t ∷ []) items ts r in
     let all : (earlier ++ means t ∷ []) ++ map means items ≡ earlier ++ (means t ∷ map means items) = append_assoc earlier (means t ∷ []) (map means items) in
     rw (regroup, r earlier t us) (reads_then (offends earlier t) (each_offends offends means (earlier ++ means t ∷ []) items) (means t) _ us ts _ (rw (← all) rest))
-
--- The same, where an item reads as it means only before tokens of some sort, and items are of that sort.
-pub each_reads_before : {T X : Type 0} (Before : List Lexeme → Type 0) (one : List X → List Lexeme → Read X) (spelled : T → List Lexeme) (offends : List X → T → List Refused) (means : T → X) (earlier : List X) (items : List T) (ts : List Lexeme)
-    → ((t : T) (us : List Lexeme) → Before us → Before (spelled t ++ us))
-    → ((earlier : List X) (t : T) (us : List Lexeme) → Before us → one earlier (spelled t ++ us) ≡ reads (offends earlier t) (means t) us)
-    → Before ts
-    → (each_at one (length items) earlier (flat_map spelled items ++ ts) ≡ reads (each_offends offends means earlier items) (earlier ++ map means items) ts) × Before (flat_map spelled items ++ ts)
-each_reads_before Before one spelled offends means earlier [] ts b r h = (rw append-nil refl, h)
-each_reads_before Before one spelled offends means earlier (t ∷ items) ts b r h =
-    let us : List Lexeme = flat_map spelled items ++ ts in
-    let regroup : (spelled t ++ flat_map spelled items) ++ ts ≡ spelled t ++ us = append_assoc (spelled t) (flat_map spelled items) ts in
-    let rest : (each_at one (length items) (earlier ++ means t ∷ []) us ≡ reads (each_offends offends means (earlier ++ means t ∷ []) items) ((earlier ++ means t ∷ []) ++ map means items) ts) × Before us = each_reads_before Before one spelled offends means (earlier ++ means t ∷ []) items ts b r h in
-    let all : (earlier ++ means t ∷ []) ++ map means items ≡ earlier ++ (means t ∷ map means items) = append_assoc earlier (means t ∷ []) (map means items) in (
-      rw (regroup, r earlier t us rest.1) (reads_then (offends earlier t) (each_offends offends means (earlier ++ means t ∷ []) items) (means t) _ us ts _ (rw (← all) rest.0)),
-      rw regroup (b t us rest.1),
-    )

@@ -1,6 +1,6 @@
 -- Which tokens fit which signs.
-use Rattle.std.proofs.Common.{◌≡◌, ℕ, Bool, true, false, ◌⊎◌, List, [], ◌∷◌, ◌++◌, refl, sym, inl, inr, subst, pos}
-use Rattle.std.specs.Prelude.{nat_eq, not, ◌||◌}
+use Rattle.std.proofs.Common.{◌≡◌, ℕ, Bool, true, false, List, [], ◌∷◌, ◌++◌, refl, sym, inl, inr, subst, pos}
+use Rattle.std.specs.Prelude.{nat_eq, not}
 use Rattle.std.specs.List.{list_any}
 use Rattle.std.specs.Str.{bytes_eq}
 use Rattle.std.proofs.lemmas.Bool.{eqb-true, eq-eqb}
@@ -8,23 +8,7 @@ use Rattle.std.proofs.lemmas.Slice.Eq.{bytes_eq-Decides}
 use Rattle.cj_tokens.specs.Lexemes.{Lexeme, Sign, Is, Spelled, number_of, is_terminal, fits}
 use Rattle.cj_grammar.specs.OneAhead.{clash, has, are_apart}
 use Rattle.cj_tokens.specs.declared.terminal.Terminal.TheVariants.{Name}
-pub use Rattle.cj_ir.proofs.Truths.{and_true, or_false}
-
-pub known_bool : (b : Bool) → (b ≡ true) ⊎ (b ≡ false)
-known_bool true = inl refl
-known_bool false = inr refl
-
-pub not_true : (a : Bool) → not a ≡ true → a ≡ false
-not_true true h = cc
-not_true false h = refl
-
-pub or_left : (a b : Bool) → a ≡ true → (a || b) ≡ true
-or_left true b h = refl
-or_left false b h = cc
-
-pub or_right : (a b : Bool) → b ≡ true → (a || b) ≡ true
-or_right true b h = refl
-or_right false b h = h
+pub use Rattle.std.proofs.lemmas.Bool.{and_parts as and_true, or_parts as or_false, cases_Bool as known_bool, not-true as not_true, or_left, or_right}
 
 -- a token of one terminal is of no other one
 one_terminal : (j k : ℕ) (n : ℕ) → nat_eq j k ≡ false → nat_eq n j ≡ true → nat_eq n k ≡ false

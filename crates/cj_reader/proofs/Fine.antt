@@ -1,13 +1,9 @@
 -- What holds where there are no offences.
-use Rattle.std.proofs.Common.{◌≡◌, ℕ, ◌+◌, ◌<◌, List, [], ◌∷◌, length, Bool, true, false, cond, Some, refl, arith, not}
+use Rattle.std.proofs.Common.{◌≡◌, ℕ, ◌+◌, ◌<◌, List, [], ◌∷◌, length, Bool, true, false, cond, Some, arith}
 use Rattle.std.specs.Prelude.{position, nat_le, ◌==◌}
 use Rattle.std.specs.List.{position_from}
 use Rattle.std.proofs.lemmas.Bool.Decides.{nat_tests}
 use Rattle.std.proofs.lemmas.List.Quantifiers.{position-Some}
-
-pub negated : (b : Bool) → not b ≡ false → b ≡ true
-negated true h = refl
-negated false h = cc
 
 pub below : (m n : ℕ) → nat_le m n ≡ false → n < m
 below m n h = grind (arith, nat_tests)

@@ -6,6 +6,7 @@ use Rattle.std.specs.Ordering.{int_eq}
 use Rattle.std.proofs.lemmas.Bool.Decides.{nat_tests, Decides-int_eq}
 use Rattle.std.proofs.lemmas.List.{length-map, map-append}
 use Rattle.std.proofs.lemmas.List.Elements.{All-nil, All-cons, All-head, All-tail, All-append}
+use Rattle.std.proofs.lemmas.Bool.{or_parts, not-false}
 use Rattle.cj_reader.proofs.Differing.{AreNewBy, differing}
 use Rattle.cj_ir.specs.WellFormed.{Takes, IsInstrFine, IsFunctionFine}
 use Rattle.cj_ir.specs.declared.language.Line.{Line}
@@ -22,9 +23,8 @@ use Rattle.cj_reader.specs.Operands.{is_line_number}
 use Rattle.cj_reader.specs.Instructions.{instr_offences}
 use Rattle.cj_reader.specs.Functions.{name_offences, names_offences, texts_of, function_name, param_tokens, other_tokens, head_offences, number_offences, line_number, line_offences, natural, line_of, numbers_of, lines_offences, lines_of, function_scope, function_offences, function_of}
 use Rattle.cj_reader.proofs.LineLaws.{number}
-use Rattle.cj_ir.proofs.Truths.{or_false}
 use Rattle.cj_grammar.proofs.Unoffended.{none_of, none_if}
-use Rattle.cj_reader.proofs.Fine.{negated, below, some_items, from_within}
+use Rattle.cj_reader.proofs.Fine.{below, some_items, from_within}
 use Rattle.cj_reader.proofs.FineParts.{Bounded, Called, instr_fine}
 use Rattle.cj_reader.proofs.FineNames.{names_few, names_new, new_and_new}
 
@@ -49,7 +49,7 @@ name_is s (n, (colon, i)) = refl
 new_number : (s : Scope) (x : ℤ) (done : List (Tree line)) → is_line_number x ≡ true → All Numbered done → list_any (λ other. int_eq other x) (map number done) ≡ false → All (λ other. other.name ≢ natural x) (map (line_of s) done)
 new_number s x [] r all h = All-nil (λ (other : Line). other.name ≢ natural x)
 new_number s x (d ∷ done) r all h =
-    let p : (int_eq (number d) x ≡ false) × (list_any (λ other. int_eq other x) (map number done) ≡ false) = or_false (int_eq (number d) x) (list_any (λ other. int_eq other x) (map number done)) h in
+    let p : (int_eq (number d) x ≡ false) × (list_any (λ other. int_eq other x) (map number done) ≡ false) = or_parts (int_eq (number d) x) (list_any (λ other. int_eq other x) (map number done)) h in
     let here : (line_of s d).name ≢ natural x = λ e.
     let same : number d ≡ x = natural_same (number d) x (All-head Numbered d done all) r (sym (name_is s d) ∙ e) in
     let t : int_eq (number d) x ≡ true = (Decides-int_eq (number d) x).1 same in cc in
@@ -67,7 +67,7 @@ number_fine earlier t h =
     let q : (offends_if (not (is_line_number t.number)) t Range ≡ []) × (offends_if (list_any (λ other. int_eq other t.number) earlier) t LabelTwice ≡ []) = none_of (offends_if (not (is_line_number t.number)) t Range) (offends_if (list_any (λ other. int_eq other t.number) earlier) t LabelTwice) p.1 in
     record {
       few = below 256 (length earlier) (none_if (nat_le 256 (length earlier)) t TooMany p.0);
-      small = negated (is_line_number t.number) (none_if (not (is_line_number t.number)) t Range q.0);
+      small = not-false (is_line_number t.number) (none_if (not (is_line_number t.number)) t Range q.0);
       new = none_if (list_any (λ other. int_eq other t.number) earlier) t LabelTwice q.1;
     }
 

@@ -5,20 +5,21 @@ use Rattle.std.specs.List.{list_any}
 use Rattle.std.specs.Str.{bytes_eq}
 use Rattle.std.proofs.lemmas.Slice.Eq.{bytes_eq-Decides}
 use Rattle.std.proofs.lemmas.List.{append-nil}
+use Rattle.std.proofs.lemmas.Bool.{or_parts}
 use Rattle.cj_reader.proofs.Differing.{AreNewBy}
 use Rattle.cj_tokens.specs.Lexemes.{Lexeme}
 use Rattle.cj_tokens.specs.declared.refusal.Kind.TheVariants.{TooMany, NameTwice}
 use Rattle.cj_grammar.specs.Reading.{offends_if}
 use Rattle.cj_reader.specs.Operands.{is_long}
 use Rattle.cj_reader.specs.Functions.{name_offences, names_offences, texts_of}
-use Rattle.cj_ir.proofs.Truths.{or_false, none_passing}
+use Rattle.cj_ir.proofs.Truths.{none_passing}
 use Rattle.cj_grammar.proofs.Unoffended.{none_of, none_if}
 use Rattle.cj_reader.proofs.Fine.{below}
 
 pub name_few : (limit : ℕ) (earlier : List (List ℕ)) (t : Lexeme) → name_offences limit earlier t ≡ [] → length earlier < limit
 name_few limit earlier t h =
     let q : (offends_if (is_long t || nat_le limit (length earlier)) t TooMany ≡ []) × (offends_if (list_any (λ other. bytes_eq other t.text) earlier) t NameTwice ≡ []) = none_of (offends_if (is_long t || nat_le limit (length earlier)) t TooMany) (offends_if (list_any (λ other. bytes_eq other t.text) earlier) t NameTwice) h in
-    below limit (length earlier) (or_false (is_long t) (nat_le limit (length earlier)) (none_if (is_long t || nat_le limit (length earlier)) t TooMany q.0)).1
+    below limit (length earlier) (or_parts (is_long t) (nat_le limit (length earlier)) (none_if (is_long t || nat_le limit (length earlier)) t TooMany q.0)).1
 
 pub name_new : (limit : ℕ) (earlier : List (List ℕ)) (t : Lexeme) → name_offences limit earlier t ≡ [] → list_any (λ other. bytes_eq other t.text) earlier ≡ false
 name_new limit earlier t h =

@@ -4,6 +4,7 @@ use Rattle.std.specs.Prelude.{◌==◌, map, flat_map, unwrap_or, option_map}
 use Rattle.std.specs.Str.{bytes_eq}
 use Rattle.std.proofs.lemmas.List.{length-map}
 use Rattle.std.proofs.lemmas.List.Elements.{All-nil, All-cons}
+use Rattle.std.proofs.lemmas.Bool.{not-false}
 use Rattle.cj_ir.specs.Values.{IsOperandWithin, IsExprWithin}
 use Rattle.cj_ir.specs.WellFormed.{Takes, IsInstrFine}
 use Rattle.cj_ir.specs.declared.language.Function.{Function}
@@ -20,7 +21,7 @@ use Rattle.cj_reader.specs.Scopes.{Scope, name_place}
 use Rattle.cj_reader.specs.Operands.{is_long, is_line_number, register_offences, register_of, label_offences, label_of, target_offences, target_of, operand_offences, operand_of, binary_of, expr_offences, expr_of}
 use Rattle.cj_reader.specs.Instructions.{arguments_offences, arguments_of, argument_count, count_offences, callee_offences, callee_of, nop_offences, nop_of, op_offences, op_of, cond_offences, cond_of, call_offences, call_of, return_offences, return_of, print_offences, print_of, load_offences, load_of, store_offences, store_of, fail_of, instr_offences, instr_of}
 use Rattle.cj_grammar.proofs.Unoffended.{none_of, none_if, none_missing}
-use Rattle.cj_reader.proofs.Fine.{negated, equal, place_within}
+use Rattle.cj_reader.proofs.Fine.{equal, place_within}
 
 -- the places of lines are below the number of lines
 abbrev pub Bounded : Scope → ℕ → Type 0
@@ -96,7 +97,7 @@ arguments_counted s (Some (first, more)) = ap suc (length-map more (λ (t : Next
 counted_fine : (functions : List Function) (t : Lexeme) (count : ℕ) (o : Option Callee) → ((callee : Callee) → o ≡ Some callee → Takes functions callee.function callee.params) → count_offences t count o ≡ [] → Takes functions (unwrap_or (option_map (λ callee. callee.function) o) (record { 0 = 0 })) count
 counted_fine functions t count None known h = cc
 counted_fine functions t count (Some callee) known h =
-    let same : callee.params ≡ count = equal callee.params count (negated (callee.params == count) (none_if (not (callee.params == count)) t Arguments h)) in
+    let same : callee.params ≡ count = equal callee.params count (not-false (callee.params == count) (none_if (not (callee.params == count)) t Arguments h)) in
     subst (λ (n : ℕ). Takes functions callee.function n) same (known callee refl)
 
 callee_fine : (s : Scope) (functions : List Function) → Called s functions → (t : Lexeme) (count : ℕ) → callee_offences s t count ≡ [] → Takes functions (callee_of s t) count

@@ -6,6 +6,7 @@ use Rattle.std.specs.Str.{bytes_eq}
 use Rattle.std.proofs.lemmas.Slice.Eq.{bytes_eq-Decides}
 use Rattle.std.proofs.lemmas.List.{length-map, map-append}
 use Rattle.std.proofs.lemmas.List.Elements.{All-nil, All-cons}
+use Rattle.std.proofs.lemmas.Bool.{or_parts}
 use Rattle.cj_reader.proofs.Differing.{AreNewBy, differing}
 use Rattle.cj_ir.specs.WellFormed.{Takes, IsFunctionFine, IsWellFormed}
 use Rattle.cj_ir.specs.declared.language.Function.{Function}
@@ -23,7 +24,6 @@ use Rattle.cj_reader.specs.Functions.{name_offences, function_name, head_of, hea
 use Rattle.cj_reader.specs.Meaning.{all_functions, heads_of, program_offences, program_of}
 use Rattle.cj_reader.specs.Reading.{program_at}
 use Rattle.cj_reader.proofs.ProgramLaws.{key, program_reads}
-use Rattle.cj_ir.proofs.Truths.{or_false}
 use Rattle.cj_grammar.proofs.Unoffended.{none_of}
 use Rattle.cj_reader.proofs.FineNames.{name_few, name_new}
 use Rattle.cj_reader.proofs.FineFunctions.{function_fine}
@@ -86,7 +86,7 @@ name_of_head heads earlier (front, (left, (body, right))) h =
 new_name : (heads : List Head) (name : List ℕ) (done : List (Tree fun)) → list_any (λ other. bytes_eq other name) (map key done) ≡ false → All (λ other. other.name ≢ name) (map (function_of heads) done)
 new_name heads name [] h = All-nil (λ (other : Function). other.name ≢ name)
 new_name heads name (d ∷ done) h =
-    let p : (bytes_eq (key d) name ≡ false) × (list_any (λ other. bytes_eq other name) (map key done) ≡ false) = or_false (bytes_eq (key d) name) (list_any (λ other. bytes_eq other name) (map key done)) h in
+    let p : (bytes_eq (key d) name ≡ false) × (list_any (λ other. bytes_eq other name) (map key done) ≡ false) = or_parts (bytes_eq (key d) name) (list_any (λ other. bytes_eq other name) (map key done)) h in
     let here : (function_of heads d).name ≢ name = λ e. let t : bytes_eq (key d) name ≡ true = (bytes_eq-Decides (key d) name).1 (sym (name_same heads d) ∙ e) in cc in
     All-cons (λ (other : Function). other.name ≢ name) (function_of heads d) (map (function_of heads) done) here (new_name heads name done p.1)
 

@@ -33,9 +33,6 @@ earlier_place test xs ys =
     let e : 0 + length xs ≡ length xs = omega arith in
     rw (← e) (from_there test 0 xs ys)
 
-named : List ℕ → Head → Bool
-named name head = bytes_eq head.name name
-
 none_earlier : (name : List ℕ) (n i : ℕ) (heads : List Head) → n ≤ i → is_earlier n (first_named i heads name) ≡ false
 none_earlier name n i [] h = refl
 none_earlier name n i (head ∷ heads) h = elim (bytes_eq head.name name) as (λ b. is_earlier n (cond b (Some (record { function = record { 0 = i }; params = head.params })) (first_named (i + 1) heads name)) ≡ false) [

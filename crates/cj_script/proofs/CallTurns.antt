@@ -41,7 +41,8 @@ limit_within spent ts =
     judged_within (limit_offences (pos spent) (front (behind ts))) (unsigned_abs (front (behind ts)).number) (length ts) _
     (ok_within (unsigned_abs (front (behind ts)).number) (length ts) (behind (behind ts)) (omega arith))
 
-begun_within : (functions : List Function) (spent : ℕ) (ts : List Lexeme) → Within ScriptCall (length ts) (begun_at functions spent ts)
+-- what begins a run leaves no more tokens than there were
+pub begun_within : (functions : List Function) (spent : ℕ) (ts : List Lexeme) → Within ScriptCall (length ts) (begun_at functions spent ts)
 unfolding begun_at
 begun_within functions spent ts =
     let numbers : length (behind_numbers (behind ts)) ≤ length (behind ts) = behind_numbers_within (behind ts) in

@@ -26,7 +26,8 @@ unfolding script_call
 behind_offences functions earlier (word, call) =
     offends_if (nat_le 256 (length earlier)) word.token TooMany ++ begun_offences functions (pos (limits earlier)) call
 
-refuse_or : {Y : Type 0} (b : Bool) (t : Lexeme) (kind : Kind) (fs : List Refused) (y : Y) (us : List Lexeme) (read : Read Y) → read ≡ reads fs y us → cond b (Err (offence t kind)) read ≡ reads (offends_if b t kind ++ fs) y us
+-- a first word that may be one too many, and what stands behind it
+pub refuse_or : {Y : Type 0} (b : Bool) (t : Lexeme) (kind : Kind) (fs : List Refused) (y : Y) (us : List Lexeme) (read : Read Y) → read ≡ reads fs y us → cond b (Err (offence t kind)) read ≡ reads (offends_if b t kind ++ fs) y us
 refuse_or true t kind fs y us read h = refl
 refuse_or false t kind fs y us read h = h
 
@@ -46,7 +47,8 @@ unfolding script_call call_offences call_of call_limit
 call_fine functions done (word, call) h =
     begun_fine functions (spent_by done) call (none_of (offends_if (nat_le 256 (length done)) word.token TooMany) (begun_offences functions (spent_by done) call) h).1
 
-spent_more : (done : List (Tree script_call)) (t : Tree script_call) → spent_by (done ++ t ∷ []) ≡ spent_by done +ℤ call_limit t
+-- the turns that one more call may take
+pub spent_more : (done : List (Tree script_call)) (t : Tree script_call) → spent_by (done ++ t ∷ []) ≡ spent_by done +ℤ call_limit t
 unfolding spent_by
 spent_more [] t = omega (arith, ints)
 spent_more (call ∷ done) t =

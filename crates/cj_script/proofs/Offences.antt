@@ -5,6 +5,7 @@ use Rattle.std.specs.List.{find}
 use Rattle.std.specs.Str.{bytes_eq}
 use Rattle.std.proofs.lemmas.Bool.Decides.{nat_tests}
 use Rattle.std.proofs.lemmas.List.Quantifiers.{position-Some}
+use Rattle.std.proofs.lemmas.Bool.{not-false}
 use Rattle.cj_ir.specs.WellFormed.{Takes}
 use Rattle.cj_ir.specs.declared.language.Function.{Function}
 use Rattle.cj_ir.specs.declared.language.Line.{Line}
@@ -98,11 +99,7 @@ parameter_fine functions name parameter h g =
     (found.0, found.2, rw (found.1, place.1) few)
 
 cond_fine : (line : Line) (number : Lexeme) → no_cond (Some line) number ≡ [] → is_cond line.instr ≡ true
-cond_fine line number h = go (is_cond line.instr) (none_if (not (is_cond line.instr)) number NotCond h)
-  where
-    go : (b : Bool) → not b ≡ false → b ≡ true
-    go true h = refl
-    go false h = cc
+cond_fine line number h = not-false (is_cond line.instr) (none_if (not (is_cond line.instr)) number NotCond h)
 
 pub label_fine : (functions : List Function) (name number : Lexeme) → function_offences functions name ≡ [] → label_offences (function_named functions name) number ≡ [] → HasCond functions (id_named functions name) (label_of (function_named functions name) number)
 label_fine functions name number h g =

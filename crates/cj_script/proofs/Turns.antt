@@ -1,7 +1,8 @@
 -- Readers of many items, turn by turn.
-use Rattle.std.proofs.Common.{◌≡◌, ℕ, zero, suc, ◌<◌, ◌≤◌, Bool, true, false, cond, ◌⊎◌, inl, inr, List, [], ◌∷◌, ◌++◌, length, Ok, Err, refl, ap, sym, ◌∙◌, append_assoc, arith}
+use Rattle.std.proofs.Common.{◌≡◌, ℕ, zero, suc, ◌<◌, ◌≤◌, Bool, true, false, cond, inl, inr, List, [], ◌∷◌, ◌++◌, length, Ok, Err, refl, ap, sym, ◌∙◌, append_assoc, arith}
 use Rattle.std.specs.Prelude.{map, flat_map}
 use Rattle.std.proofs.lemmas.List.{append-nil}
+use Rattle.std.proofs.lemmas.Bool.{cases_Bool}
 use Rattle.cj_tokens.specs.Lexemes.{Lexeme, is_terminal}
 use Rattle.cj_tokens.specs.Passing.{front, behind}
 use Rattle.cj_tokens.specs.declared.terminal.Terminal.{Terminal}
@@ -50,10 +51,6 @@ number_shorter (t ∷ ts) h = omega arith
 
 -- ---- items one after another
 
-known_bool : (b : Bool) → (b ≡ true) ⊎ (b ≡ false)
-known_bool true = inl refl
-known_bool false = inr refl
-
 -- Where each item takes a token, the number of tokens is enough.
 module _ {X : Type 0} (more : List Lexeme → Bool) (one : List X → List Lexeme → Read X) (ends : more [] ≡ false) (short : (earlier : List X) (ts : List Lexeme) (x : X × List Lexeme) → more ts ≡ true → one earlier ts ≡ Ok x → length x.1 < length ts) where
   enough : (n m : ℕ) (earlier : List X) (ts : List Lexeme) → length ts ≤ n → length ts ≤ m → many_at more one n earlier ts ≡ many_at more one m earlier ts
@@ -62,7 +59,7 @@ module _ {X : Type 0} (more : List Lexeme → Bool) (one : List X → List Lexem
   enough zero (suc m) earlier (t ∷ ts) h g = absurd (omega arith)
   enough (suc n) zero earlier [] h g = rw ends refl
   enough (suc n) zero earlier (t ∷ ts) h g = absurd (omega arith)
-  enough (suc n) (suc m) earlier ts h g = elim (known_bool (more ts)) [
+  enough (suc n) (suc m) earlier ts h g = elim (cases_Bool (more ts)) [
     | inr b ↦ rw b refl
     | inl b ↦ rw b (elim (known (one earlier ts)) [
       | inl x ↦ let s : length x.0.1 < length ts = short earlier ts x.0 b x.1 in rw x.1 (enough n m (earlier ++ x.0.0 ∷ []) x.0.1 (omega arith) (omega arith))

@@ -1,6 +1,7 @@
 -- Printed pieces, and the tokens that they are read as.
 use Rattle.std.proofs.Common.{◌≡◌, ◌∙◌, sym, ap, refl, ℕ, ℤ, pos, ◌^◌, ◌<◌, Bool, true, false, List, [], ◌∷◌, ◌++◌, append_assoc, arith}
 use Rattle.std.proofs.lemmas.Bool.Decides.{nat_tests}
+use Rattle.std.proofs.lemmas.Bool.{or_parts}
 use Rattle.std.specs.Prelude.{◌||◌, codes}
 use Rattle.std.specs.Char.{is_ascii_digit}
 use Rattle.std.specs.Fmt.{signed_decimal}
@@ -15,7 +16,6 @@ use Rattle.cj_tokens.specs.declared.terminal.Terminal.{Terminal}
 use Rattle.cj_tokens.specs.declared.terminal.Terminal.TheVariants.{Name, Number, Text, Minus}
 use Rattle.cj_tokens.proofs.Again.{blank_again, line_feed_again, name_again, keyword_again, mark_again, text_again, number_again}
 use Rattle.cj_printer.specs.Pieces.{Piece, gap_text, pieces_text, glued, blank, feed}
-use Rattle.cj_ir.proofs.Truths.{or_false}
 
 -- the bytes of pieces in front of others
 abbrev pub before : List Piece → List ℕ → List ℕ
@@ -70,11 +70,11 @@ nothing_inside line = record { reads = λ rest apart. refl }
 
 no_letter : (rest : List ℕ) → Apart rest → begins is_letter_or_digit rest ≡ false
 no_letter [] h = refl
-no_letter (b ∷ bs) h = (or_false (is_letter_or_digit b) (is_greater b) h).0
+no_letter (b ∷ bs) h = (or_parts (is_letter_or_digit b) (is_greater b) h).0
 
 no_greater : (rest : List ℕ) → Apart rest → begins is_greater rest ≡ false
 no_greater [] h = refl
-no_greater (b ∷ bs) h = (or_false (is_letter_or_digit b) (is_greater b) h).1
+no_greater (b ∷ bs) h = (or_parts (is_letter_or_digit b) (is_greater b) h).1
 
 no_digit : (rest : List ℕ) → Apart rest → begins is_ascii_digit rest ≡ false
 no_digit [] h = refl

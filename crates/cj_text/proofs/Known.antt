@@ -7,6 +7,7 @@ use Rattle.std.specs.Str.{bytes_eq}
 use Rattle.std.specs.List.{list_all}
 use Rattle.std.proofs.lemmas.Bool.Decides.{nat_tests, Decides-int_eq}
 use Rattle.std.proofs.lemmas.Slice.Eq.{bytes_eq-Decides}
+use Rattle.std.proofs.lemmas.Bool.{and_parts}
 use Rattle.cj_ir.specs.Texts.{is_letter_or_digit, starts_with_letter, is_keyword, is_text_byte, is_fail_text}
 use Rattle.cj_ir.specs.Values.{IsOperandWithin, IsExprWithin}
 use Rattle.cj_ir.specs.WellFormed.{AllDifferBy, Takes, IsInstrFine, IsFunctionFine}
@@ -27,7 +28,6 @@ use Rattle.cj_printer.specs.Canonical.{text_or_none, name_of, reg_text, function
 use Rattle.cj_text.specs.Written.{IsName, IsValue, IsOperandWritten, IsExprWritten, IsInstrWritten, IsFunctionWritten}
 use Rattle.cj_text.proofs.Trees.{number_at, label_number}
 use Rattle.cj_text.proofs.Lists.{Every, every_of_all, every_both, every_at, IsFirst, first_placed, first_position, first_of_differing, position_map}
-use Rattle.cj_ir.proofs.Truths.{and_true}
 use Rattle.cj_ir.proofs.ListReads.{at_index}
 
 within : (n : ℕ) → nat_le n 32 ≡ true → nat_lt 32 n ≡ false
@@ -36,8 +36,8 @@ within n h = grind (arith, nat_tests)
 -- a name is no longer than 32 bytes
 pub name_short : (w : List ℕ) → IsName w → nat_lt 32 (length w) ≡ false
 name_short w h =
-    let f : ((starts_with_letter w && list_all is_letter_or_digit w && nat_le (length w) 32) ≡ true) × (not (is_keyword w) ≡ true) = and_true _ _ h in
-    let g : ((starts_with_letter w && list_all is_letter_or_digit w) ≡ true) × (nat_le (length w) 32 ≡ true) = and_true _ _ f.0 in
+    let f : ((starts_with_letter w && list_all is_letter_or_digit w && nat_le (length w) 32) ≡ true) × (not (is_keyword w) ≡ true) = and_parts _ _ h in
+    let g : ((starts_with_letter w && list_all is_letter_or_digit w) ≡ true) × (nat_le (length w) 32 ≡ true) = and_parts _ _ f.0 in
     within (length w) g.1
 
 within_text : (n : ℕ) → nat_le n 64 ≡ true → nat_lt 64 n ≡ false
@@ -45,7 +45,7 @@ within_text n h = grind (arith, nat_tests)
 
 pub text_parts : (t : List ℕ) → is_fail_text t ≡ true → (list_all is_text_byte t ≡ true) × (nat_lt 64 (length t) ≡ false)
 text_parts t h =
-    let p : (list_all is_text_byte t ≡ true) × (nat_le (length t) 64 ≡ true) = and_true _ _ h in
+    let p : (list_all is_text_byte t ≡ true) × (nat_le (length t) 64 ≡ true) = and_parts _ _ h in
     (p.0, within_text (length t) p.1)
 
 -- ---- registers

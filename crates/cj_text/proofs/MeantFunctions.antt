@@ -1,5 +1,5 @@
 -- The trees of a well-formed program's functions mean these functions, and have no offence.
-use Rattle.std.proofs.Common.{◌≡◌, ◌∙◌, sym, ap, refl, subst, ℕ, ℤ, pos, suc, ◌+◌, ◌<◌, ◌≤◌, Bool, false, List, [], ◌∷◌, ◌++◌, length, map, take, drop, arith, length-append, length-take}
+use Rattle.std.proofs.Common.{◌≡◌, ◌∙◌, sym, ap, refl, subst, ℕ, ℤ, pos, suc, ◌+◌, ◌<◌, ◌≤◌, false, List, [], ◌∷◌, ◌++◌, length, map, take, drop, arith, length-append, length-take}
 use Rattle.std.specs.Prelude.{◌==◌, ◌||◌, not, nat_le}
 use Rattle.std.specs.List.{list_any}
 use Rattle.std.specs.Ordering.{int_eq}
@@ -7,6 +7,7 @@ use Rattle.std.specs.Str.{bytes_eq}
 use Rattle.std.proofs.lemmas.Bool.Decides.{nat_tests, Decides-int_eq}
 use Rattle.std.proofs.lemmas.List.{length-map, take-append-drop}
 use Rattle.std.proofs.lemmas.Slice.Eq.{bytes_eq-Decides}
+use Rattle.std.proofs.lemmas.Bool.{or_from}
 use Rattle.cj_ir.specs.WellFormed.{AllDifferBy, IsFunctionFine}
 use Rattle.cj_ir.specs.declared.language.Function.{Function}
 use Rattle.cj_ir.specs.declared.language.Line.{Line}
@@ -41,9 +42,6 @@ one_more earlier x n limit h = let l : length (earlier ++ x ∷ []) ≡ length e
 
 has_room : {A : Type 0} (earlier : List A) (n limit : ℕ) → length earlier + suc n ≤ limit → nat_le limit (length earlier) ≡ false
 has_room earlier n limit h = let less : length earlier < limit = omega arith in room limit (length earlier) less
-
-or_none : (a b : Bool) → a ≡ false → b ≡ false → (a || b) ≡ false
-or_none a b e f = rw (e, f) refl
 
 -- ---- lines
 
@@ -113,7 +111,7 @@ lines_same fs f l k = code_same fs f l f.code k.lines
 name_fine : (limit : ℕ) (earlier : List (List ℕ)) (l rest : ℕ) (name : List ℕ) → IsName name → length earlier + suc rest ≤ limit → list_any (λ other. bytes_eq other name) earlier ≡ false → name_offences limit earlier (name_token l name) ≡ []
 name_fine limit earlier l rest name h room new =
     let t : Lexeme = name_token l name in
-    none _ _ (unless (is_long t || nat_le limit (length earlier)) t TooMany (or_none (is_long t) (nat_le limit (length earlier)) (name_short name h) (has_room earlier rest limit room)))
+    none _ _ (unless (is_long t || nat_le limit (length earlier)) t TooMany (or_from (is_long t) (nat_le limit (length earlier)) (name_short name h) (has_room earlier rest limit room)))
     (unless (list_any (λ other. bytes_eq other name) earlier) t NameTwice new)
 
 names_fine : (limit : ℕ) (earlier : List (List ℕ)) (l : ℕ) (names : List (List ℕ)) → Every IsName names → length earlier + length names ≤ limit → AreNew (λ name. name) bytes_eq earlier names → names_offences limit earlier (map (name_token l) names) ≡ []

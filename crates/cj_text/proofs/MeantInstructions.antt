@@ -1,8 +1,8 @@
 -- The tree of an instruction means that instruction, and has no offence.
-use Rattle.std.proofs.Common.{◌≡◌, ◌∙◌, ap, refl, ℕ, pos, Bool, true, false, List, [], ◌∷◌, ◌++◌, length, map, flat_map, arith, suc}
+use Rattle.std.proofs.Common.{◌≡◌, ◌∙◌, ap, refl, ℕ, pos, Bool, false, List, [], ◌∷◌, ◌++◌, length, map, flat_map, suc}
 use Rattle.std.specs.Prelude.{Option, Some, ◌==◌, not, unwrap_or, nat_lt}
-use Rattle.std.proofs.lemmas.Bool.Decides.{nat_tests}
 use Rattle.std.proofs.lemmas.List.{length-map}
+use Rattle.std.proofs.lemmas.Bool.{not_from_true, eq-eqb}
 use Rattle.cj_ir.specs.declared.language.Expr.{Expr}
 use Rattle.cj_ir.specs.declared.language.Expr.TheVariants as exprs
 use Rattle.cj_ir.specs.declared.language.FunId.{FunId}
@@ -65,15 +65,12 @@ register_fine fs f l r k =
 register_same : (fs : List Function) (f : Function) (l : ℕ) (r : Reg) → RegKnown f r → register_of (known_scope fs f) (name_token l (reg_text f r)) ≡ r
 register_same fs f l r k = ap (λ (o : Option ℕ). let reg : Reg = record { 0 = unwrap_or o 0 } in reg) k.place
 
-not_true : (b : Bool) → b ≡ true → not b ≡ false
-not_true b e = rw e refl
-
 label_fine : (fs : List Function) (f : Function) (l : ℕ) (label : Label) → LabelKnown f label → label_offences (known_scope fs f) (number_token l (pos (label_number f label))) ≡ []
 label_fine fs f l label k =
     let n : ℕ = label_number f label in
     let t : Lexeme = number_token l (pos n) in
     none (offends_if (not (is_line_number (pos n))) t Range) (missing (number_place (numbers f.code) (pos n)) t NoLabel)
-    (unless (not (is_line_number (pos n))) t Range (not_true (is_line_number (pos n)) k.range)) (there (number_place (numbers f.code) (pos n)) label.0 t NoLabel k.place)
+    (unless (not (is_line_number (pos n))) t Range (not_from_true (is_line_number (pos n)) k.range)) (there (number_place (numbers f.code) (pos n)) label.0 t NoLabel k.place)
 
 label_same : (fs : List Function) (f : Function) (l : ℕ) (label : Label) → LabelKnown f label → label_of (known_scope fs f) (number_token l (pos (label_number f label))) ≡ label
 label_same fs f l label k = ap (λ (o : Option ℕ). let to : Label = record { 0 = unwrap_or o 0 } in to) k.place
@@ -160,15 +157,12 @@ unfolding rule.operands rule.more_operands arguments_tree argument_count
 count_same l f [] = refl
 count_same l f (a ∷ args) = ap (λ n. suc n) (length-map args (next_operand l f))
 
-itself : (n : ℕ) → not (n == n) ≡ false
-itself n = grind (arith, nat_tests)
-
 callee_fine : (fs : List Function) (f : Function) (l : ℕ) (id : FunId) (count : ℕ) → CalleeKnown fs id count → callee_offences (known_scope fs f) (name_token l (function_text fs id)) count ≡ []
 callee_fine fs f l id count k =
     let t : Lexeme = name_token l (function_text fs id) in
     none (offends_if (is_long t) t TooMany) (count_offences t count ((known_scope fs f).function_at t.text))
     (unless (is_long t) t TooMany k.short)
-    (ap (count_offences t count) k.place ∙ unless (not (count == count)) t Arguments (itself count))
+    (ap (count_offences t count) k.place ∙ unless (not (count == count)) t Arguments (not_from_true (count == count) (eq-eqb count count refl)))
 
 callee_same : (fs : List Function) (f : Function) (l : ℕ) (id : FunId) (count : ℕ) → CalleeKnown fs id count → callee_of (known_scope fs f) (name_token l (function_text fs id)) ≡ id
 callee_same fs f l id count k = rw k.place refl

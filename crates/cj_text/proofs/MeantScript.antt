@@ -1,11 +1,11 @@
 -- The tree of a fitting script means that script, and has no offence.
-use Rattle.std.proofs.Common.{◌≡◌, ◌∙◌, sym, ap, refl, ℕ, ℤ, pos, ◌+◌, ◌+ℤ◌, ◌<◌, ◌≤◌, Bool, true, false, List, [], ◌∷◌, ◌++◌, length, map, arith, length-append}
-use Rattle.std.proofs.lemmas.Int.{ints}
+use Rattle.std.proofs.Common.{◌≡◌, ◌∙◌, sym, ap, refl, ℕ, ℤ, pos, ◌+◌, ◌+ℤ◌, ◌<◌, ◌≤◌, false, List, [], ◌∷◌, ◌++◌, length, map, arith, length-append}
 use Rattle.std.specs.Prelude.{Option, ◌==◌, not, ◌&&◌, slice_get, unwrap_or, nat_le, nat_lt, int_le, int_lt}
 use Rattle.std.specs.List.{sum_by}
 use Rattle.std.proofs.lemmas.Bool.Decides.{nat_tests}
 use Rattle.std.proofs.lemmas.List.{length-map}
 use Rattle.std.proofs.lemmas.List.Sums.{sum_by-cons}
+use Rattle.std.proofs.lemmas.Bool.{not_from_true, eq-eqb}
 use Rattle.cj_ir.specs.declared.language.Edge.{Edge}
 use Rattle.cj_ir.specs.declared.language.Edge.TheVariants as edges
 use Rattle.cj_ir.specs.declared.language.FunId.{FunId}
@@ -28,6 +28,7 @@ use Rattle.cj_grammar.specs.Rules as rule
 use Rattle.cj_grammar.specs.Reading.{offends_if, missing, highest, each_offends}
 use Rattle.cj_printer.specs.Canonical.{function_text, reg_in}
 use Rattle.cj_script.specs.Meaning.{function_named, id_named, parameter_named, line_numbered, is_cond, long_name, out_of_range, function_offences, other_count, callee_offences, limit_offences, begun_offences, cells_of, limit_of, begun_of, call_limit, spent_by, call_offences, calls_offences, call_of, calls_of, parameter_offences, parameter_of, no_cond, label_offences, label_of, guess_offences, guess_of, cold_offences, edge_of, cold_of, warm_offences, warm_of, setup_offences, setup_of, setups_offences, setups_of, script_offences, script_of}
+use Rattle.cj_script.proofs.CallsReads.{spent_more}
 use Rattle.cj_text.proofs.Chunks.{name_token, number_token}
 use Rattle.cj_text.proofs.Lists.{Every}
 use Rattle.cj_text.proofs.KnownScript.{FunKnown, ParamKnown, CondKnown, SetupKnown, CallKnown}
@@ -74,16 +75,13 @@ param_same l fs id param f k p =
     let t : Lexeme = name_token l (reg_in (slice_get fs id.0) param) in
     ap (λ (o : Option Function). parameter_of o t) k.found ∙ ap (λ (o : Option ℕ). unwrap_or o 0) p.place
 
-is_a_cond : (b : Bool) → b ≡ true → not b ≡ false
-is_a_cond b e = rw e refl
-
 cond_fine : (l : ℕ) (fs : List Function) (id : FunId) (label : Label) (f : Function) (line : Line) → FunKnown fs id f → CondKnown fs id label f line → label_offences (function_named fs (named l fs id)) (number_token l (pos (label_in_number (slice_get fs id.0) label))) ≡ []
 cond_fine l fs id label f line k c =
     let t : Lexeme = number_token l (pos (label_in_number (slice_get fs id.0) label)) in
     ap (λ (o : Option Function). label_offences o t) k.found
     ∙ none (missing (line_numbered f t) t NoLabel) (no_cond (line_numbered f t) t)
     (there (line_numbered f t) line t NoLabel c.found)
-    (ap (λ (o : Option Line). no_cond o t) c.found ∙ unless (not (is_cond line.instr)) t NotCond (is_a_cond (is_cond line.instr) c.is_cond))
+    (ap (λ (o : Option Line). no_cond o t) c.found ∙ unless (not (is_cond line.instr)) t NotCond (not_from_true (is_cond line.instr) c.is_cond))
 
 cond_same : (l : ℕ) (fs : List Function) (id : FunId) (label : Label) (f : Function) (line : Line) → FunKnown fs id f → CondKnown fs id label f line → label_of (function_named fs (named l fs id)) (number_token l (pos (label_in_number (slice_get fs id.0) label))) ≡ label
 cond_same l fs id label f line k c =
@@ -125,16 +123,13 @@ setups_same fs l (x ∷ xs) k = same_two (λ (y : Setup) (ys : List Setup). y �
 
 -- ---- calls
 
-itself : (m n : ℕ) → m ≡ n → not (m == n) ≡ false
-itself m n h = grind (arith, nat_tests)
-
 callee_fine : (l : ℕ) (fs : List Function) (id : FunId) (f : Function) (count : ℕ) → FunKnown fs id f → f.params ≡ count → callee_offences fs count (named l fs id) ≡ []
 unfolding callee_offences
 callee_fine l fs id f count k e =
     let t : Lexeme = named l fs id in
     highest_none (function_offences fs t ++ other_count (function_named fs t) count t)
     (none (function_offences fs t) (other_count (function_named fs t) count t) (name_fine l fs id f k)
-    (ap (λ (o : Option Function). other_count o count t) k.found ∙ unless (not (f.params == count)) t Arguments (itself f.params count e)))
+    (ap (λ (o : Option Function). other_count o count t) k.found ∙ unless (not (f.params == count)) t Arguments (not_from_true (f.params == count) (eq-eqb f.params count e))))
 
 within_sum : (spent n : ℕ) → spent + n ≤ 4000000 → int_lt (pos 4000000) (pos spent +ℤ pos n) ≡ false
 within_sum spent n h = grind (arith, nat_tests)
@@ -173,13 +168,6 @@ calls_same fs l (x ∷ xs) k = same_two (λ (y : ScriptCall) (ys : List ScriptCa
 limit_is : (fs : List Function) (l : ℕ) (call : ScriptCall) → call_limit (call_tree fs l call) ≡ pos call.limit
 unfolding rule.script_call rule.begun rule.numbers call_tree begun_tree call_limit limit_of
 limit_is fs l call = refl
-
-spent_more : (done : List (Tree rule.script_call)) (t : Tree rule.script_call) → spent_by (done ++ t ∷ []) ≡ spent_by done +ℤ call_limit t
-unfolding spent_by
-spent_more [] t = omega (arith, ints)
-spent_more (call ∷ done) t =
-    let ih : spent_by (done ++ t ∷ []) ≡ spent_by done +ℤ call_limit t = spent_more done t in
-    rw ih (omega (arith, ints))
 
 spent_with : (fs : List Function) (l spent : ℕ) (done : List (Tree rule.script_call)) (call : ScriptCall) → spent_by done ≡ pos spent → spent_by (done ++ call_tree fs l call ∷ []) ≡ pos (spent + call.limit)
 spent_with fs l spent done call h =

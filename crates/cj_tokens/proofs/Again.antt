@@ -4,6 +4,7 @@ use Rattle.std.proofs.Math.Seq.{take-append_seam, drop-append_seam}
 use Rattle.std.proofs.lemmas.Bool.Decides.{nat_tests}
 use Rattle.std.proofs.lemmas.Fmt.{digits_decimal, digits_value-decimal, decimal_nonempty}
 use Rattle.std.proofs.lemmas.Str.Parse.{IsNumeralModel, numerals_by_fold}
+use Rattle.std.proofs.lemmas.Bool.{and_parts}
 use Rattle.std.specs.Prelude.{◌&&◌, ◌==◌, not, nat_le}
 use Rattle.std.specs.Char.{is_ascii_digit}
 use Rattle.std.specs.Fmt.{decimal, signed_decimal}
@@ -19,7 +20,7 @@ use Rattle.cj_tokens.specs.declared.terminal.Terminal.{Terminal}
 use Rattle.cj_tokens.specs.declared.terminal.Terminal.TheVariants.{Name, Number, Text, Fun, Nop, Op, Cond, Call, Return, Print, Load, Store, Fail, Neg, Eqz, Calls, Guess, Cold, Then, Else, Warm, Memory, Limit, Events, Begin, Step, Compile, Anchors, Assume, Delay, Const, Inline, When, Never, Keep, OpenParen, CloseParen, OpenBrace, CloseBrace, OpenBracket, CloseBracket, Comma, Semicolon, Colon, Equals, Plus, Minus, Star, Slash, Percent, Less, Arrow}
 use Rattle.cj_tokens.proofs.Found.{letter_no_quote, token_next, size_word, size_text}
 use Rattle.cj_tokens.proofs.Tables.{free_is_name}
-use Rattle.cj_ir.proofs.Truths.{and_true, not_or}
+use Rattle.cj_ir.proofs.Truths.{not_or}
 
 -- ---- the places of tokens do not change what they are
 
@@ -62,7 +63,7 @@ run_all : (p : ℕ → Bool) (bs rest : List ℕ) → list_all p bs ≡ true →
 run_all p [] [] a s = refl
 run_all p [] (r ∷ rest) a s = rw s refl
 run_all p (b ∷ bs) rest a s =
-    let h : (p b ≡ true) × (list_all p bs ≡ true) = and_true (p b) (list_all p bs) a in
+    let h : (p b ≡ true) × (list_all p bs ≡ true) = and_parts (p b) (list_all p bs) a in
     let i : prefix_len p (bs ++ rest) ≡ length bs = run_all p bs rest h.1 s in
     let e : 1 + length bs ≡ suc (length bs) = omega arith in
     rw (h.0, i) e
@@ -83,16 +84,16 @@ word_lexeme line b bs l = rw (l, letter_no_quote b l, letter_no_number b bs l) r
 pub word_again : (line : ℕ) (w rest : List ℕ) → starts_with_letter w ≡ true → list_all is_letter_or_digit w ≡ true → begins is_letter_or_digit rest ≡ false → lexed line (w ++ rest) ≡ record { terminal = word_terminal w; line = line; text = w; number = pos 0 } ∷ lexed line rest
 word_again line [] rest l a s = cc
 word_again line (b ∷ bs) rest l a s =
-    let h : (is_letter_or_digit b ≡ true) × (list_all is_letter_or_digit bs ≡ true) = and_true (is_letter_or_digit b) (list_all is_letter_or_digit bs) a in
+    let h : (is_letter_or_digit b ≡ true) × (list_all is_letter_or_digit bs ≡ true) = and_parts (is_letter_or_digit b) (list_all is_letter_or_digit bs) a in
     let n : size_of (b ∷ (bs ++ rest)) ≡ suc (length bs) = size_word b (bs ++ rest) l ∙ ap (λ n. suc n) (run_all is_letter_or_digit bs rest h.1 s) in
     again line (b ∷ bs) rest (letter_starts b l) n ∙ ap (λ t. t ∷ lexed line rest) (word_lexeme line b bs l)
 
 -- a name
 pub name_again : (line : ℕ) (w rest : List ℕ) → is_name w ≡ true → begins is_letter_or_digit rest ≡ false → lexed line (w ++ rest) ≡ record { terminal = Name; line = line; text = w; number = pos 0 } ∷ lexed line rest
 name_again line w rest h s =
-    let f : ((starts_with_letter w && list_all is_letter_or_digit w && nat_le (length w) 32) ≡ true) × (not (is_keyword w) ≡ true) = and_true _ _ h in
-    let g : ((starts_with_letter w && list_all is_letter_or_digit w) ≡ true) × (nat_le (length w) 32 ≡ true) = and_true _ _ f.0 in
-    let k : (starts_with_letter w ≡ true) × (list_all is_letter_or_digit w ≡ true) = and_true _ _ g.0 in
+    let f : ((starts_with_letter w && list_all is_letter_or_digit w && nat_le (length w) 32) ≡ true) × (not (is_keyword w) ≡ true) = and_parts _ _ h in
+    let g : ((starts_with_letter w && list_all is_letter_or_digit w) ≡ true) × (nat_le (length w) 32 ≡ true) = and_parts _ _ f.0 in
+    let k : (starts_with_letter w ≡ true) × (list_all is_letter_or_digit w ≡ true) = and_parts _ _ g.0 in
     let t : word_terminal w ≡ Name = free_is_name w f.1 in
     word_again line w rest k.0 k.1 s ∙ rw t refl
 
@@ -237,14 +238,14 @@ text_again line t rest a =
 -- ---- numbers
 
 -- digits, and what they are worth
-own : IsNumeralModel (λ ds. all_ascii_digits ds ≡ true) (value 0)
+pub value_is_numeral : IsNumeralModel (λ ds. all_ascii_digits ds ≡ true) (value 0)
 unfolding value
-own = numerals_by_fold _ (search rules) value (search rules)
+value_is_numeral = numerals_by_fold _ (search rules) value (search rules)
 
 all_digits : (ds : List ℕ) → all_ascii_digits ds ≡ true → list_all is_ascii_digit ds ≡ true
 all_digits [] h = refl
 all_digits (d ∷ ds) h =
-    let p : (is_ascii_digit d ≡ true) × (all_ascii_digits ds ≡ true) = and_true (is_ascii_digit d) (all_ascii_digits ds) h in
+    let p : (is_ascii_digit d ≡ true) × (all_ascii_digits ds ≡ true) = and_parts (is_ascii_digit d) (all_ascii_digits ds) h in
     rw p.0 (all_digits ds p.1)
 
 digit_starts : (b : ℕ) → is_ascii_digit b ≡ true → is_start b ≡ true
@@ -281,13 +282,13 @@ minus_lexeme line n d ds h v f = rw (h, v, f) refl
 plain_again : (line n : ℕ) (t rest : List ℕ) → list_all is_ascii_digit t ≡ true → 0 < length t → value 0 t ≡ n → nat_le n 9223372036854775807 ≡ true → begins is_ascii_digit rest ≡ false → lexed line (t ++ rest) ≡ record { terminal = Number; line = line; text = t; number = pos n } ∷ lexed line rest
 plain_again line n [] rest a l v f s = absurd (omega arith)
 plain_again line n (d ∷ ds) rest a l v f s =
-    let p : (is_ascii_digit d ≡ true) × (list_all is_ascii_digit ds ≡ true) = and_true (is_ascii_digit d) (list_all is_ascii_digit ds) a in
+    let p : (is_ascii_digit d ≡ true) × (list_all is_ascii_digit ds ≡ true) = and_parts (is_ascii_digit d) (list_all is_ascii_digit ds) a in
     again line (d ∷ ds) rest (digit_starts d p.0) (digits_size d ds rest p.0 p.1 s) ∙ ap (λ x. x ∷ lexed line rest) (digits_lexeme line n d ds p.0 v f)
 
 below_again : (line n : ℕ) (t rest : List ℕ) → list_all is_ascii_digit t ≡ true → 0 < length t → value 0 t ≡ suc n → nat_le (suc n) 9223372036854775808 ≡ true → begins is_ascii_digit rest ≡ false → lexed line (45 ∷ (t ++ rest)) ≡ record { terminal = Number; line = line; text = 45 ∷ t; number = negsuc n } ∷ lexed line rest
 below_again line n [] rest a l v f s = absurd (omega arith)
 below_again line n (d ∷ ds) rest a l v f s =
-    let p : (is_ascii_digit d ≡ true) × (list_all is_ascii_digit ds ≡ true) = and_true (is_ascii_digit d) (list_all is_ascii_digit ds) a in
+    let p : (is_ascii_digit d ≡ true) × (list_all is_ascii_digit ds ≡ true) = and_parts (is_ascii_digit d) (list_all is_ascii_digit ds) a in
     again line (45 ∷ d ∷ ds) rest refl (minus_digits_size d ds rest p.0 p.1 s) ∙ ap (λ x. x ∷ lexed line rest) (minus_lexeme line n d ds p.0 v f)
 
 -- A number as std prints it.
@@ -295,8 +296,8 @@ pub number_again : (z : ℤ) (line : ℕ) (rest : List ℕ) → mag z < 2 ^ 63 �
 number_again (pos n) line rest h s =
     let b : n < 2 ^ 64 = omega arith in
     let f : nat_le n 9223372036854775807 ≡ true = grind (arith, nat_tests) in
-    plain_again line n (decimal n) rest (all_digits (decimal n) (digits_decimal own n b)) (decimal_nonempty n b) (digits_value-decimal own n b) f s
+    plain_again line n (decimal n) rest (all_digits (decimal n) (digits_decimal value_is_numeral n b)) (decimal_nonempty n b) (digits_value-decimal value_is_numeral n b) f s
 number_again (negsuc n) line rest h s =
     let b : suc n < 2 ^ 64 = omega arith in
     let f : nat_le (suc n) 9223372036854775808 ≡ true = grind (arith, nat_tests) in
-    below_again line n (decimal (suc n)) rest (all_digits (decimal (suc n)) (digits_decimal own (suc n) b)) (decimal_nonempty (suc n) b) (digits_value-decimal own (suc n) b) f s
+    below_again line n (decimal (suc n)) rest (all_digits (decimal (suc n)) (digits_decimal value_is_numeral (suc n) b)) (decimal_nonempty (suc n) b) (digits_value-decimal value_is_numeral (suc n) b) f s

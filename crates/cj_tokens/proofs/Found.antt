@@ -1,7 +1,7 @@
 -- The token that stands next.
 use Rattle.std.proofs.Common.{◌≡◌, ℕ, zero, suc, ◌+◌, ◌-◌, ◌<◌, ◌≤◌, Bool, true, false, cond, List, [], ◌∷◌, length, take, drop, get_or, refl, ap, sym, ◌∙◌, arith, length-drop, drop-drop}
 use Rattle.std.proofs.lemmas.Bool.Decides.{nat_tests}
-use Rattle.std.proofs.lemmas.Bool.{eqb-true}
+use Rattle.std.proofs.lemmas.Bool.{eqb-true, and_parts}
 use Rattle.std.proofs.lemmas.List.{take_rest, length-take}
 use Rattle.std.proofs.lemmas.List.Sums.{prefix_len-le-length}
 use Rattle.std.specs.Prelude.{nat_eq, ◌||◌, ◌&&◌, not, ◌==◌}
@@ -16,7 +16,7 @@ use Rattle.cj_tokens.specs.Words.{is_free_word, is_well}
 use Rattle.cj_tokens.specs.declared.terminal.Terminal.TheVariants.{End, Text, Number, BadNumber, BadCharacter}
 use Rattle.cj_tokens.proofs.Skips.{passed, next_at}
 use Rattle.cj_tokens.proofs.Tables.{is_other, word_other, mark_other, name_is_free}
-use Rattle.cj_ir.proofs.Truths.{and_true, not_or}
+use Rattle.cj_ir.proofs.Truths.{not_or}
 
 -- ---- what is no end, no name and no text
 
@@ -132,8 +132,8 @@ unfolding size_of
 size_sized b bs =
     pick bs (is_letter b) _ _ (λ _. sized_run is_letter_or_digit bs) (λ _.
     pick bs (begins_number b bs) _ _ (λ _. sized_run is_ascii_digit bs) (λ _.
-    pick bs (is_minus b && begins is_greater bs) _ _ (λ t. sized_some bs 1 (begins_some is_greater bs (and_true (is_minus b) (begins is_greater bs) t).1)) (λ _.
-    pick bs (is_quote b && is_closed bs) _ _ (λ t. sized_some bs (suc (prefix_len is_text_byte bs)) (closed_within bs (and_true (is_quote b) (is_closed bs) t).1)) (λ _.
+    pick bs (is_minus b && begins is_greater bs) _ _ (λ t. sized_some bs 1 (begins_some is_greater bs (and_parts (is_minus b) (begins is_greater bs) t).1)) (λ _.
+    pick bs (is_quote b && is_closed bs) _ _ (λ t. sized_some bs (suc (prefix_len is_text_byte bs)) (closed_within bs (and_parts (is_quote b) (is_closed bs) t).1)) (λ _.
     sized_some bs 0 (omega arith)))))
 
 pub sized : (b : ℕ) (bs : List ℕ) → (k : ℕ) × (size_of (b ∷ bs) ≡ suc k) × (k ≤ length bs)

@@ -3,11 +3,6 @@ use Rattle.std.proofs.Common.{◌≡◌, ℕ, ◌+◌, ◌*◌, ◌-◌, ◌<◌
 use Rattle.std.proofs.Math.Seq.{drop-length}
 use Rattle.cj_tokens.specs.Spellings.{value}
 
-grows : (m : ℕ) (bs : List ℕ) → m ≤ value m bs
-unfolding value
-grows m [] = omega arith
-grows m (b ∷ bs) = let i : 10 * m + (b - 48) ≤ value (10 * m + (b - 48)) bs = grows (10 * m + (b - 48)) bs in omega arith
-
 pub capped : (cap m n : ℕ) (bs : List ℕ) → min m cap ≡ min n cap → min (value m bs) cap ≡ min (value n bs) cap
 unfolding value
 capped cap m n [] h = h

@@ -1,5 +1,6 @@
 -- What is looked up in the tables of keywords and marks.
 use Rattle.std.proofs.Common.{◌≡◌, ◌<◌, ◌≤◌, ℕ, Bool, true, false, cond, List, [], ◌∷◌, length, get_or, refl, arith}
+use Rattle.std.proofs.lemmas.Bool.{not-true, and_parts}
 use Rattle.std.specs.Prelude.{◌||◌, not, nat_eq}
 use Rattle.std.specs.List.{list_all, list_any}
 use Rattle.std.specs.Str.{bytes_eq}
@@ -10,7 +11,6 @@ use Rattle.cj_tokens.specs.Lexemes.{number_of}
 use Rattle.cj_tokens.specs.Spellings.{lookup, keyword_table, mark_table, word_terminal, mark_terminal}
 use Rattle.cj_tokens.specs.declared.terminal.Terminal.{Terminal}
 use Rattle.cj_tokens.specs.declared.terminal.Terminal.TheVariants.{Name, BadCharacter}
-use Rattle.cj_ir.proofs.Truths.{and_true}
 
 -- the terminal has another number
 abbrev pub is_other : ℕ → Terminal → Bool
@@ -25,7 +25,7 @@ lacks k table = list_all (λ e. is_other k e.1) table
 pub lookup_other : (k : ℕ) (table : Table) (other : Terminal) (t : List ℕ) → lacks k table ≡ true → is_other k other ≡ true → is_other k (lookup table other t) ≡ true
 lookup_other k [] other t l o = o
 lookup_other k (e ∷ es) other t l o =
-    let p : (is_other k e.1 ≡ true) × (lacks k es ≡ true) = and_true (is_other k e.1) (lacks k es) l in
+    let p : (is_other k e.1 ≡ true) × (lacks k es ≡ true) = and_parts (is_other k e.1) (lacks k es) l in
     let i : is_other k (lookup es other t) ≡ true = lookup_other k es other t p.1 o in
     go (bytes_eq e.0 t) p.0 i
   where
@@ -37,7 +37,7 @@ lookup_other k (e ∷ es) other t l o =
 pub lookup_misses : (k : ℕ) (table : Table) (other : Terminal) (t : List ℕ) → lacks k table ≡ true → is_other k (lookup table other t) ≡ false → list_any (λ e. bytes_eq e.0 t) table ≡ false
 lookup_misses k [] other t l f = refl
 lookup_misses k (e ∷ es) other t l f =
-    let p : (is_other k e.1 ≡ true) × (lacks k es ≡ true) = and_true (is_other k e.1) (lacks k es) l in
+    let p : (is_other k e.1 ≡ true) × (lacks k es ≡ true) = and_parts (is_other k e.1) (lacks k es) l in
     go (bytes_eq e.0 t) p.0 (lookup_misses k es other t p.1) f
   where
     go : (c : Bool) → is_other k e.1 ≡ true → (is_other k (lookup es other t) ≡ false → list_any (λ e. bytes_eq e.0 t) es ≡ false) → is_other k (cond c e.1 (lookup es other t)) ≡ false → (c || list_any (λ e. bytes_eq e.0 t) es) ≡ false
@@ -64,13 +64,9 @@ lookup_none (e ∷ es) other t n = go (bytes_eq e.0 t) (lookup_none es other t) 
     go true f m = cc
     go false f m = f m
 
-not_true : (a : Bool) → not a ≡ true → a ≡ false
-not_true true h = cc
-not_true false h = refl
-
 pub free_is_name : (t : List ℕ) → not (is_keyword t) ≡ true → word_terminal t ≡ Name
 unfolding keyword_table
-free_is_name t h = lookup_none keyword_table Name t (not_true (is_keyword t) h)
+free_is_name t h = lookup_none keyword_table Name t (not-true (is_keyword t) h)
 
 -- a spelling of a table with that first byte stands among those that begin with it
 pub lookup_first : (table : Table) (other : Terminal) (b : ℕ) (bs : List ℕ) → lookup (beginning b table) other (b ∷ bs) ≡ lookup table other (b ∷ bs)
@@ -91,8 +87,8 @@ pub none_beginning : (b : ℕ) (table : Table) → begins_none b table ≡ true 
 unfolding beginning
 none_beginning b [] h = refl
 none_beginning b (e ∷ es) h =
-    let p : (not (begins (λ c. nat_eq c b) e.0) ≡ true) × (begins_none b es ≡ true) = and_true (not (begins (λ c. nat_eq c b) e.0)) (begins_none b es) h in
-    rw (not_true (begins (λ c. nat_eq c b) e.0) p.0) (none_beginning b es p.1)
+    let p : (not (begins (λ c. nat_eq c b) e.0) ≡ true) × (begins_none b es ≡ true) = and_parts (not (begins (λ c. nat_eq c b) e.0)) (begins_none b es) h in
+    rw (not-true (begins (λ c. nat_eq c b) e.0) p.0) (none_beginning b es p.1)
 
 -- no bytes are a name
 pub no_word : (t : List ℕ) → length t < 1 → word_terminal t ≡ Name
