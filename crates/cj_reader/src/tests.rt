@@ -4,7 +4,7 @@ use crate::program::read_program;
 use cj_grammar::shape;
 use cj_ir::{Checked, FunId, Function, Instr, Label, Operand, Reg};
 use cj_tokens::{Kind, ParseError, Refused, Terminal, Tokens};
-use std::alloc::{AllocError, Global};
+use std::alloc::Global;
 use std::process::Abort;
 use std::test::Fail;
 
