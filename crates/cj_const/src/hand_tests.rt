@@ -9,42 +9,31 @@ ghost use Rattle.cj_draft.specs.Effects.{version_effect, Plain};
 ghost use Rattle.cj_const.specs.Behind.{reg, label, failing, six, swap, guards, place, behind};
 
 use crate::knowledge::{known, row_of};
+use crate::tests::{add_line, function, has_facts, is_unreached};
 use crate::{fold, strongest};
 use cj_draft::laws::base_body_is_sound;
 use cj_draft::{
     Backs, Code, Draft, Fact, FactList, FactTable, Facts, Pair, Pairs, Place, Places, Point, VInstr,
 };
 use cj_ir::{
-    Checked, Duplicate, Expr, FunId, Function, Functions, Guard, Guards, Instr, Label, Line, Lines,
-    Name, Names, NoMemory, Operand, Program, Reg, check,
+    Checked, Duplicate, Expr, FunId, Function, Functions, Guard, Guards, Instr, Label, Lines,
+    NoMemory, Operand, Program, Reg, check,
 };
 use std::alloc::Global;
 use std::process::Abort;
 use std::test::Fail;
 
-fn registers(rt: &impl Abort, alloc: Global) -> Result<Names, Fail> {
-    let mut regs = Names::new(alloc);
-    regs.push(Name::of(alloc, b"n")?.expect(rt, "a name"))?;
-    regs.push(Name::of(alloc, b"r")?.expect(rt, "a name"))?;
-    Ok(regs)
-}
-
 // main(n; r): store [-1] = 0
 fn program(rt: &impl Abort, alloc: Global) -> Result<Checked, Fail> {
     let mut code = Lines::new(alloc);
-    let instr = Instr::Store {
+    let store = Instr::Store {
         address: Operand::Const(-1),
         value: Operand::Const(0),
         next: Label(0),
     };
-    code.push(Line { name: 1, instr })?;
+    add_line(&mut code, 1, store)?;
     let mut functions = Functions::new(alloc);
-    functions.push(Function {
-        name: Name::of(alloc, b"main")?.expect(rt, "a name"),
-        params: 1,
-        regs: registers(rt, alloc)?,
-        code,
-    })?;
+    functions.push(function(rt, alloc, "main", code)?)?;
     Ok(check(Program { functions }).expect(rt, "a well-formed program"))
 }
 
@@ -169,10 +158,10 @@ fn is_store(main: &Function, base: &Code, first: &Place) -> bool
 
 // The code in the context in which n is 5.
 fn draft<'p>(rt: &impl Abort, alloc: Global, checked: &'p Checked) -> Result<Draft<'p>, Fail> {
-    let function = FunId(0);
+    let number = FunId(0);
     assert!(rt; !checked.program().functions.items().is_empty());
-    let main = checked.function(function);
-    let (_, _, base) = Draft::of_base(alloc, checked, function)?.into_parts();
+    let main = checked.function(number);
+    let (_, _, base) = Draft::of_base(alloc, checked, number)?.into_parts();
     base_body_is_sound();
     let Some(first) = base.places.items().get(0) else {
         return Err(Fail::from("the base body has no place"));
@@ -183,7 +172,7 @@ fn draft<'p>(rt: &impl Abort, alloc: Global, checked: &'p Checked) -> Result<Dra
     let mut context = FactList::new(alloc);
     context.push(fact(0, 5))?;
     let code = Code {
-        function,
+        function: number,
         regs: 2,
         entry: Label(0),
         places: places(alloc, &first.point)?,
@@ -210,27 +199,6 @@ fn folded(rt: &impl Abort, alloc: Global) -> Result<Code, Fail> {
     let checked = program(rt, alloc)?;
     let (_, _, code) = fold(draft(rt, alloc, &checked)?)?.into_parts();
     Ok(code)
-}
-
-fn has_facts(table: &FactTable, at: usize, want: &[Fact]) -> bool {
-    match table.items().get(at) {
-        Some(Facts::Known(facts)) => facts.items() == want,
-        _ => false,
-    }
-}
-
-fn is_unreached(table: &FactTable, at: usize) -> bool {
-    matches!(table.items().get(at), Some(Facts::Unreached))
-}
-
-fn tells(code: &Code, at: usize, want: &[Fact]) -> bool {
-    match code.places.items().get(at) {
-        Some(place) => match &place.facts {
-            Facts::Known(facts) => facts.items() == want,
-            Facts::Unreached => false,
-        },
-        None => false,
-    }
 }
 
 fn assumes(code: &Code, at: usize, want: &[Guard]) -> bool {
@@ -263,13 +231,6 @@ fn a_move_assigns_all_at_once(rt: HostRuntime) -> Result<(), Fail> {
 fn nothing_goes_on_behind_a_false_guard(rt: HostRuntime) -> Result<(), Fail> {
     let facts = facts_of(&rt, rt.alloc())?;
     assert!(rt; is_unreached(&facts, 4));
-    Ok(())
-}
-
-#[test]
-fn the_code_tells_what_is_known(rt: HostRuntime) -> Result<(), Fail> {
-    let code = folded(&rt, rt.alloc())?;
-    assert!(rt; tells(&code, 0, &[fact(0, 5)]));
     Ok(())
 }
 

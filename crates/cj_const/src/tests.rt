@@ -38,7 +38,7 @@ fn constant(value: i64, next: u32) -> Instr {
     op(Expr::Copy(Operand::Const(value)), next)
 }
 
-fn add_line(code: &mut Lines, name: u32, instr: Instr) -> Result<(), Fail> {
+pub(crate) fn add_line(code: &mut Lines, name: u32, instr: Instr) -> Result<(), Fail> {
     Ok(code.push(Line { name, instr })?)
 }
 
@@ -77,7 +77,12 @@ fn registers(rt: &impl Abort, alloc: Global) -> Result<Names, Fail> {
     Ok(regs)
 }
 
-fn function(rt: &impl Abort, alloc: Global, name: &str, code: Lines) -> Result<Function, Fail> {
+pub(crate) fn function(
+    rt: &impl Abort,
+    alloc: Global,
+    name: &str,
+    code: Lines,
+) -> Result<Function, Fail> {
     Ok(Function {
         name: named(rt, alloc, name)?,
         params: 1,
@@ -124,14 +129,14 @@ fn fold_of(rt: &impl Abort, alloc: Global, f: u32) -> Result<Folded, Fail> {
     fold_in(rt, alloc, &program(rt, alloc)?, f)
 }
 
-fn has_facts(table: &FactTable, at: usize, want: &[Fact]) -> bool {
+pub(crate) fn has_facts(table: &FactTable, at: usize, want: &[Fact]) -> bool {
     match table.items().get(at) {
         Some(Facts::Known(facts)) => facts.items() == want,
         _ => false,
     }
 }
 
-fn is_unreached(table: &FactTable, at: usize) -> bool {
+pub(crate) fn is_unreached(table: &FactTable, at: usize) -> bool {
     matches!(table.items().get(at), Some(Facts::Unreached))
 }
 
