@@ -1,7 +1,7 @@
 -- How the windows over a list of values change with it.
-use Rattle.std.proofs.Common.{◌≡◌, ◌∙◌, sym, ap, refl, subst, ℕ, ◌+◌, ◌-◌, ◌<◌, ◌≤◌, List, [], ◌∷◌, ◌++◌, length, get_or, take, drop, reverse, map, Some, None, arith, ℤ}
+use Rattle.std.proofs.Common.{◌≡◌, ◌∙◌, sym, ap, refl, subst, ℕ, ◌+◌, ◌-◌, ◌<◌, ◌≤◌, List, [], ◌∷◌, ◌++◌, length, take, drop, reverse, map, Some, None, arith, ℤ}
 use Rattle.std.specs.Prelude.{slice_get, slice_set}
-use Rattle.std.proofs.lemmas.List.{append_assoc, append-nil, reverse-append, take-append-drop, take_rest, take_at, drop_at, take-set-le, drop-set-add, length-set, length-drop, length-take-le, length-append, drop_all, drop_more, take_all}
+use Rattle.std.proofs.lemmas.List.{reverse-append, take-append-drop, take_rest, take_at, drop_at, take-set-le, drop-set-add, length-set, length-drop, length-take-le, length-append, drop_all, take_all}
 use Rattle.cj_ir.specs.declared.language.Label.{Label}
 use Rattle.cj_ir.specs.declared.language.Reg.{Reg}
 use Rattle.cj_base.proofs.Lists.{none_last, reverse_last}
@@ -211,27 +211,6 @@ none_to_take values top s dest is has = subst (λ (x : Stacked). HasDest dest x.
 
 -- Base frames.
 
-pushes_none : (windows : List Window) (values : List ℤ) → Pushes [] windows windows values values
-pushes_none windows values = record { waits = refl; tiled = λ t. t }
-
-pushes_more : (frame : Waiting) (frames : List Waiting) (windows windows' windows'' : List Window) (values values' values'' : List ℤ)
-    → Pushes frames windows windows' values values' → Pushes (frame ∷ []) windows' windows'' values' values''
-    → Pushes (frame ∷ frames) windows windows'' values values''
-pushes_more frame frames windows windows' windows'' values values' values'' p q = record {
-  waits = q.waits ∙ ap (λ ws. BaseWaits frame ∷ ws) p.waits;
-  tiled = λ t. q.tiled (p.tiled t);
-}
-
-pub pushes_no_frame : (frames : List Waiting) (n : ℕ) (windows : List Window) (values : List ℤ) → length frames ≤ n → Pushes (drop n frames) windows windows values values
-pushes_no_frame frames n windows values e = rw (drop_all n frames e) (pushes_none windows values)
-
-pub pushes_at : (frames : List Waiting) (place : ℕ) (frame : Waiting) (windows windows' windows'' : List Window) (values values' values'' : List ℤ)
-    → place < length frames → frame ≡ get_or frames place frame
-    → Pushes (drop (place + 1) frames) windows windows' values values' → Pushes (frame ∷ []) windows' windows'' values' values''
-    → Pushes (drop place frames) windows windows'' values values''
-pushes_at frames place frame windows windows' windows'' values values' values'' within is p q =
-    rw (drop_more frames place frame within, sym is) (pushes_more frame _ windows windows' windows'' values values' values'' p q)
-
 pub pushes_one : (frame : Waiting) (windows windows' : List Window) (values values' : List ℤ) (start : ℕ)
     → values' ≡ values ++ frame.regs
     → windows' ≡ windows ++ record { position = Base frame.function frame.label; dest = frame.dest; start = start } ∷ []
@@ -280,24 +259,6 @@ lost_seen values new_values top ws s is t p =
     rw
     (cut_back (take top.start values) new_values top.start p size, take_all top.start (take top.start values) (omega arith), drop_all top.start (take top.start values) (omega arith), with_regs_is top.position (drop top.start values) [])
     (ap (λ (x : Stacked). record x { top = with_regs x.top [] }) is)
-
-pub lost_tiled : (values new_values : List ℤ) (top : Window) (ws : List Window)
-    → AreTiled values (top ∷ ws) → Extends (take top.start values) new_values → AreTiled (take top.start new_values) (top ∷ ws)
-lost_tiled values new_values top ws t p =
-    let size = length-take-le top.start values t.0 in
-    let within : top.start ≤ length (take top.start values) = omega arith in
-    rw
-    (cut_back (take top.start values) new_values top.start p size, take_all top.start (take top.start values) (omega arith))
-    (within, t.1)
-
-pub extends_same : {A : Type 0} (xs : List A) → Extends xs xs
-extends_same xs = record { rest = []; is = sym (append-nil xs) }
-
-pub extends_by : {A : Type 0} (xs ys rest : List A) → ys ≡ xs ++ rest → Extends xs ys
-extends_by xs ys rest e = record { rest = rest; is = e }
-
-pub extends_twice : {A : Type 0} (xs ys zs : List A) → Extends xs ys → Extends ys zs → Extends xs zs
-extends_twice xs ys zs p q = record { rest = p.rest ++ q.rest; is = q.is ∙ rw p.is (append_assoc xs p.rest q.rest) }
 
 -- The first activation.
 

@@ -1,5 +1,5 @@
 -- The first frames of a stack, and the turns of a run by the turns of its first frames.
-use Rattle.std.proofs.Common.{◌≡◌, ◌∙◌, sym, ap, subst, refl, ℕ, ◌+◌, List, [], ◌∷◌, ◌++◌, Option, Some, None, ℤ, append_assoc, append-nil}
+use Rattle.std.proofs.Common.{◌≡◌, ◌∙◌, sym, ap, subst, refl, ℕ, ◌+◌, List, [], ◌∷◌, ◌++◌, Option, Some, None, ℤ, append-nil}
 use Rattle.std.specs.Prelude.{⊤}
 use Rattle.cj_ir.specs.Program.{instr_at}
 use Rattle.cj_ir.specs.declared.language.Program.{Program}
@@ -54,10 +54,6 @@ turn_over P s below m = at_over P (instr_at P s.top.function s.top.label) s belo
 pub over_nil : (s : Stack) → over s [] ≡ s
 unfolding over
 over_nil s = ap (λ (ws : List Waiting). record { top = s.top; waiting = ws }) (append-nil s.waiting)
-
-pub over_over : (s : Stack) (a b : List Waiting) → over (over s a) b ≡ over s (a ++ b)
-unfolding over
-over_over s a b = ap (λ (ws : List Waiting). record { top = s.top; waiting = ws }) (append_assoc s.waiting a b)
 
 -- The run after a turn with this outcome.
 abbrev pub After : Program → Begun → ℕ → List ℤ → Outcome → Type 0

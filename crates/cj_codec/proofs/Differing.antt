@@ -1,25 +1,17 @@
 -- Tests on lists: destinations that differ, and registers that increase.
 use Rattle.std.proofs.Common.{◌≡◌, ◌≢◌, ℕ, zero, suc, ◌+◌, ◌<◌, ◌≤◌, List, [], ◌∷◌, map, refl, sym, ap, arith}
-use Rattle.std.specs.Prelude.{Bool, true, false, not, ◌&&◌, ◌||◌, ◌==◌, All, ⊤}
+use Rattle.std.specs.Prelude.{Bool, true, false, not, ◌||◌, ◌==◌, All, ⊤}
 use Rattle.std.specs.List.Sorted.{IsStrictlyIncreasing}
-use Rattle.std.proofs.lemmas.Bool.{eqb-true, eq-eqb, leb-true, le-leb}
+use Rattle.std.specs.Cmp.Derive.{both_true}
+use Rattle.std.proofs.lemmas.Bool.{eqb-true, eq-eqb, leb-true, le-leb, and_parts}
 use Rattle.std.proofs.lemmas.List.Elements.{All-cons, All-nil, All-tail, All-head}
 use Rattle.std.proofs.lemmas.List.Kept.{AllPairs-cons}
 use Rattle.cj_ir.specs.declared.language.Reg.{Reg}
 use Rattle.cj_ir.specs.WellFormed.{AllDifferBy}
 use Rattle.cj_draft.specs.declared.facts.Fact.{Fact}
 use Rattle.cj_draft.specs.declared.instructions.Pair.{Pair}
-use Rattle.cj_codec.specs.Reading.{reg_of, has_dest, are_apart, rise_from}
-
-both_true : (s t : Bool) → (s && t) ≡ true → (s ≡ true) × (t ≡ true)
-both_true true true e = (refl, refl)
-both_true true false e = cc
-both_true false t e = cc
-
-true_both : (s t : Bool) → s ≡ true → t ≡ true → (s && t) ≡ true
-true_both true true p q = refl
-true_both true false p q = q
-true_both false t p q = cc
+use Rattle.cj_draft.proofs.FewPairs.{same_reg}
+use Rattle.cj_codec.specs.Reading.{has_dest, are_apart, rise_from}
 
 neither : (s t : Bool) → not (s || t) ≡ true → (s ≡ false) × (not t ≡ true)
 neither true t e = cc
@@ -36,9 +28,6 @@ step k = omega arith
 
 abbrev dest_of : Pair → Reg
 dest_of pair = pair.dest
-
-same_reg : (r s : Reg) → r.0 ≡ s.0 → r ≡ s
-same_reg r s e = ap reg_of e
 
 apart_from : (pair : Pair) (pairs : List Pair) → not (has_dest pair.dest.0 pairs) ≡ true → All (λ other. pair.dest ≢ other.dest) pairs
 apart_from pair [] e = All-nil (λ other. pair.dest ≢ other.dest)
@@ -62,13 +51,13 @@ differ_tail pair pairs h = λ i j d lt within. h (suc i) (suc j) d (omega arith)
 pub differ_from : (pairs : List Pair) → are_apart pairs ≡ true → AllDifferBy dest_of pairs
 differ_from [] e = λ i j d lt within. absurd (omega arith)
 differ_from (pair ∷ pairs) e =
-    let both = both_true (not (has_dest pair.dest.0 pairs)) (are_apart pairs) e in
+    let both = and_parts (not (has_dest pair.dest.0 pairs)) (are_apart pairs) e in
     AllPairs-cons (λ x y. dest_of x ≢ dest_of y) pair pairs (apart_from pair pairs both.0) (differ_from pairs both.1)
 
 pub differ_to : (pairs : List Pair) → AllDifferBy dest_of pairs → are_apart pairs ≡ true
 differ_to [] h = refl
 differ_to (pair ∷ pairs) h =
-    true_both (not (has_dest pair.dest.0 pairs)) (are_apart pairs) (apart_to pair pairs (differ_head pair pairs h)) (differ_to pairs (differ_tail pair pairs h))
+    both_true (apart_to pair pairs (differ_head pair pairs h)) (differ_to pairs (differ_tail pair pairs h))
 
 -- ---- registers
 
@@ -82,12 +71,12 @@ Rises least (fact ∷ facts) = (least ≤ fact.reg.0) × Rises (fact.reg.0 + 1) 
 rises_from : (least : ℕ) (facts : List Fact) → rise_from least facts ≡ true → Rises least facts
 rises_from least [] e = tt
 rises_from least (fact ∷ facts) e =
-    let both = both_true _ _ e in
+    let both = and_parts _ _ e in
     (leb-true least fact.reg.0 both.0, rises_from (fact.reg.0 + 1) facts both.1)
 
 rises_to : (least : ℕ) (facts : List Fact) → Rises least facts → rise_from least facts ≡ true
 rises_to least [] h = refl
-rises_to least (fact ∷ facts) h = true_both _ _ (le-leb least fact.reg.0 h.0) (rises_to (fact.reg.0 + 1) facts h.1)
+rises_to least (fact ∷ facts) h = both_true (le-leb least fact.reg.0 h.0) (rises_to (fact.reg.0 + 1) facts h.1)
 
 increasing_from : (least : ℕ) (facts : List Fact) → Rises least facts → IsStrictlyIncreasing (numbers facts)
 increasing_from least [] h k lt = absurd (omega arith)

@@ -10,11 +10,8 @@ taken : {X : Type 0} (one : Reading X) (n : ℕ) (r : Read X) (earlier : List X)
 taken one n None earlier = refl
 taken one n (Some x) earlier = refl
 
-unrolled : (n k : ℕ) → k < n → n - k ≡ suc (n - (k + 1))
-unrolled n k h = omega arith
-
 turned : {X : Type 0} (one : Reading X) (n k : ℕ) (earlier : List X) (ws : List ℕ) → k < n → each_at one (n - k) earlier ws ≡ (one_more_at one earlier ws >>= λ y. each_at one (n - (k + 1)) y.0 y.1)
-turned one n k earlier ws h = rw (unrolled n k h) (taken one (n - (k + 1)) (one ws) earlier)
+turned one n k earlier ws h = rw (let more : n - k ≡ suc (n - (k + 1)) = omega arith in more) (taken one (n - (k + 1)) (one ws) earlier)
 
 pub each_goes : {X : Type 0} (one : Reading X) (n k : ℕ) (earlier items : List X) (ws us : List ℕ) → k < n → one_more_at one earlier ws ≡ Some (items, us) → each_at one (n - k) earlier ws ≡ each_at one (n - (k + 1)) items us
 each_goes {X} one n k earlier items ws us h e = turned one n k earlier ws h ∙ ap (λ (r : Read (List X)). r >>= λ y. each_at one (n - (k + 1)) y.0 y.1) e

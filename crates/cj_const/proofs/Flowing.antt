@@ -6,14 +6,14 @@ use Rattle.std.specs.Ordering.{int_eq}
 use Rattle.std.proofs.lemmas.Option.{none-some, same_Some}
 use Rattle.std.proofs.lemmas.List.{get_or-set_same, get_or-set_other}
 use Rattle.std.proofs.lemmas.List.Elements.{All-weaker, All-head, All-tail}
-use Rattle.std.proofs.lemmas.Bool.{cases_eq, cases_Bool, and_parts, eq-eqb, cond-true, cond-false}
+use Rattle.std.proofs.lemmas.Bool.{cases_eq, and_parts, eq-eqb, cond-true}
 use Rattle.std.proofs.lemmas.Bool.Decides.{Decides-int_eq}
 use Rattle.cj_ir.specs.Values.{register, operand_value, expr_value}
 use Rattle.cj_ir.specs.declared.language.Label.{Label}
 use Rattle.cj_ir.specs.declared.language.Reg.{Reg}
 use Rattle.cj_ir.specs.declared.language.Guard.{Guard}
 use Rattle.cj_ir.specs.declared.language.Guard.TheVariants.{Is, Never}
-use Rattle.cj_ir.proofs.Members.{contains-head, contains-tail}
+use Rattle.cj_ir.proofs.Members.{contains-head}
 use Rattle.cj_base.specs.Machine.{Effect, On, Fault, branch, cell, with_cell, op_effect, load_effect, store_effect}
 use Rattle.cj_base.specs.Machine as machine
 use Rattle.cj_draft.specs.declared.facts.Fact.{Fact}
@@ -25,6 +25,7 @@ use Rattle.cj_draft.specs.declared.instructions.VInstr.TheVariants.{Nop, Op, Mov
 use Rattle.cj_draft.specs.Effects.{Plain, guard_holds, guards_hold, moved, version_effect}
 use Rattle.cj_draft.specs.Arrives.{Allows}
 use Rattle.cj_draft.proofs.Refine.{Flows}
+use Rattle.cj_draft.proofs.EdgeLemmas.{branch_among}
 use Rattle.cj_draft.specs.Edges.{successors}
 use Rattle.cj_const.specs.declared.knowledge.Outcome.{Outcome}
 use Rattle.cj_const.specs.declared.knowledge.Outcome.TheVariants.{Unknown, Value, ZeroDivisor}
@@ -83,13 +84,6 @@ cond-agrees k regs (Some w) v a b agrees at =
     let same : (branch w a b).0 ≡ (branch v a b).0 = ap (λ z. (branch z a b).0) (sym (at w refl)) in
     subst (λ (o : Option Knowledge). AgreesWith o regs) (sym (cond-true ((branch w a b).0 == (branch v a b).0) (Some k) None (eq-eqb (branch w a b).0 (branch v a b).0 same))) agrees
 
-branch-in : (v : ℤ) (a b : Label) → Contains (a ∷ b ∷ []) (branch v a b)
-unfolding branch
-branch-in v a b = ⊎_elim
-    (λ yes_. subst (Contains (a ∷ b ∷ [])) (sym (cond-true (int_eq v (pos 0)) b a yes_)) (contains-tail a b (b ∷ []) (contains-head b [])))
-    (λ no_. subst (Contains (a ∷ b ∷ [])) (sym (cond-false (int_eq v (pos 0)) b a no_)) (contains-head a (b ∷ [])))
-    (cases_Bool (int_eq v (pos 0)))
-
 agrees-more : (k : Knowledge) (regs : List ℤ) (r : ℕ) (v : ℤ) → Agrees k regs → register regs r ≡ v → Agrees (with_known k r (Some v)) regs
 agrees-more k regs r v agrees at q w e = ⊎_elim
     (λ same. ap (register regs) same ∙ at ∙ same_Some v w (sym (at-written k r q (Some v) same) ∙ e))
@@ -147,7 +141,7 @@ module _ (n : ℕ) (table : List Facts) (k : Knowledge) (regs : List ℤ) (count
       arrives next (Some (after_move k pairs k)) (moved regs pairs regs) (edges next (contains-head next [])) (h.1 ∙ count) h.0
   flows (Cond test a b) m w edges =
       let v : ℤ = operand_value regs test in
-      arrives (branch v a b) (along k (known_value k test) a b (branch v a b)) regs (edges (branch v a b) (branch-in v a b)) count
+      arrives (branch v a b) (along k (known_value k test) a b (branch v a b)) regs (edges (branch v a b) (branch_among v a b)) count
       (cond-agrees k regs (known_value k test) v a b agrees (known-agrees k regs agrees test))
   flows (Call dest f args next) m w edges = λ v.
       arrives next (Some (with_known k dest.0 None)) (slice_set regs dest.0 v) (edges next (contains-head next [])) (written dest.0 v) (agrees-unknown k regs dest.0 v agrees (omega arith))

@@ -2,7 +2,7 @@
 use Rattle.std.proofs.Common.{◌≡◌, ℕ, zero, suc, ◌<◌, ◌≤◌, List, length, replicate, Option, Some, None, refl, sym, ap, ◌∙◌, subst, ⊎_elim, arith, length-append}
 use Rattle.std.specs.Prelude.{ℤ, pos, ◌-◌, All, Contains, IsSomeAnd, slice_get}
 use Rattle.std.proofs.Math.ListN.{get_or-append}
-use Rattle.std.proofs.lemmas.List.{length-replicate}
+use Rattle.std.proofs.lemmas.List.{length-replicate, get_or_past}
 use Rattle.std.proofs.lemmas.Bool.{cases_lt}
 use Rattle.std.proofs.lemmas.List.Elements.{All-contains, All-contains_itself, All-weaker, All-get_or}
 use Rattle.cj_ir.specs.Values.{register}
@@ -35,7 +35,6 @@ use Rattle.cj_const.proofs.Effects.{instr-effect}
 use Rattle.cj_const.proofs.Flowing.{Tells, flows}
 use Rattle.cj_const.proofs.FoldedNames.{writes_within, by-fine, together-fine}
 use Rattle.cj_const.proofs.FoldedPlaces.{length-folded, get-folded, got-folded}
-use Rattle.cj_const.proofs.Rows.{get_or-past}
 use Rattle.cj_draft.proofs.Refine.{IsRefined, refined_sound}
 use Rattle.cj_const.proofs.Together.{satisfies-agrees, together-allows, together-old}
 
@@ -146,7 +145,7 @@ module _ (P : Program) (context : List Fact) (f : FunId) (code : Code) (table : 
   fine-at : (x : Label) → HasFineFacts n (facts_at table x)
   fine-at x = ⊎_elim
       (λ below. All-get_or (HasFineFacts n) table x.0 Unreached below consistent.fine)
-      (λ past. subst (HasFineFacts n) (sym (get_or-past table x.0 Unreached past)) tt)
+      (λ past. subst (HasFineFacts n) (sym (get_or_past table x.0 Unreached past)) tt)
       (cases_lt x.0 (length table))
 
   place-fine : (x : Label) (p : Place) → place_at code x ≡ Some p → IsPlaceFine P n (length code.places) p

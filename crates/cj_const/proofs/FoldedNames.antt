@@ -1,8 +1,7 @@
 -- All that a folded instruction names exists where all that the instruction names does.
 use Rattle.std.proofs.Common.{◌≡◌, ℕ, zero, suc, ◌<◌, ◌≤◌, List, [], ◌∷◌, length, map, get_or, Option, Some, None, refl, sym, ap, ◌∙◌, subst, ⊎_elim, arith}
-use Rattle.std.specs.Prelude.{ℤ, pos, All}
+use Rattle.std.specs.Prelude.{ℤ, All}
 use Rattle.std.specs.List.{list_any, filter}
-use Rattle.std.specs.Ordering.{int_eq}
 use Rattle.std.proofs.lemmas.Bool.{cases_Bool, cond-true, cond-false}
 use Rattle.std.proofs.lemmas.List.{length-map}
 use Rattle.std.proofs.lemmas.List.Sums.{length-filter, count_by-le-length}
@@ -15,7 +14,6 @@ use Rattle.cj_ir.specs.declared.language.Guard.{Guard}
 use Rattle.cj_ir.specs.declared.language.Guard.TheVariants.{Never}
 use Rattle.cj_ir.specs.declared.language.Operand.{Operand}
 use Rattle.cj_ir.specs.declared.language.Expr.{Expr}
-use Rattle.cj_base.specs.Machine.{branch}
 use Rattle.cj_draft.specs.declared.instructions.Pair.{Pair}
 use Rattle.cj_draft.specs.declared.instructions.VInstr.{VInstr}
 use Rattle.cj_draft.specs.declared.instructions.VInstr.TheVariants.{Nop, Op, Move, Cond, Call, Return, Print, Load, Store, Fail, Assume, Anchor}
@@ -23,6 +21,7 @@ use Rattle.cj_draft.specs.declared.facts.Facts.{Facts}
 use Rattle.cj_draft.specs.declared.facts.Facts.TheVariants.{Unreached, Known}
 use Rattle.cj_draft.specs.WellNamed.{IsGuardWithin, ArePairsFine, IsVInstrFine, HasFineFacts}
 use Rattle.cj_draft.proofs.OperandLemmas.{operands_within}
+use Rattle.cj_draft.proofs.EdgeLemmas.{branch_in}
 use Rattle.cj_const.specs.declared.knowledge.Outcome.{Outcome}
 use Rattle.cj_const.specs.declared.knowledge.Outcome.TheVariants.{Unknown, Value, ZeroDivisor}
 use Rattle.cj_const.specs.Knowledge.{Knowledge, told_by, known_value, constant_or, folded_operand, folded_operands, evaluated}
@@ -89,12 +88,9 @@ pairs-fine k n pairs fine = record {
 }
 
 cond-fine : (P : Program) (n labels : ℕ) (test : Operand) (known : Option ℤ) (a b : Label) → IsVInstrFine P n labels (Cond test a b) → IsVInstrFine P n labels (folded_cond test known a b)
-unfolding folded_cond branch
+unfolding folded_cond
 cond-fine P n labels test None a b fine = fine
-cond-fine P n labels test (Some v) a b fine = ⊎_elim
-    (λ yes_. subst (λ (l : Label). l.0 < labels) (sym (cond-true (int_eq v (pos 0)) b a yes_)) fine.2)
-    (λ no_. subst (λ (l : Label). l.0 < labels) (sym (cond-false (int_eq v (pos 0)) b a no_)) fine.1)
-    (cases_Bool (int_eq v (pos 0)))
+cond-fine P n labels test (Some v) a b fine = branch_in (λ (l : Label). l.0 < labels) v a b fine.1 fine.2
 
 abbrev AreGuardsFine : ℕ → List Guard → Type 0
 AreGuardsFine n guards = (length guards ≤ 8) × All (IsGuardWithin n) guards

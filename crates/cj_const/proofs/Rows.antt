@@ -5,7 +5,7 @@ use Rattle.std.proofs.Math.Path.{fun_ext}
 use Rattle.std.proofs.lemmas.Bool.{cases_eq, cases_lt, eq-eqb, ne_eqb, and_parts, cond-true, cond-false}
 use Rattle.std.proofs.Math.ListN.{get_or-append}
 use Rattle.std.proofs.Math.Seq.{get_or-append_seam}
-use Rattle.std.proofs.lemmas.List.{get_or-set_same, get_or-set_other}
+use Rattle.std.proofs.lemmas.List.{get_or-set_same, get_or-set_other, get_or_past}
 use Rattle.std.proofs.lemmas.List.Elements.{All-head, All-tail}
 use Rattle.cj_ir.specs.Values.{IsOperandWithin, IsExprWithin}
 use Rattle.cj_ir.specs.declared.language.Operand.{Operand}
@@ -45,11 +45,6 @@ told-past facts i d r h e same =
 pub told-none : (facts : List Fact) (i r : ℕ) → length facts ≤ i → told_by (drop i facts) r ≡ told_by facts r → told_by facts r ≡ None
 unfolding told_by
 told-none facts i r h same = sym same ∙ ap (λ (xs : List Fact). told_by xs r) (drop-end facts i h)
-
-pub get_or-past : {X : Type 0} (xs : List X) (i : ℕ) (d : X) → length xs ≤ i → get_or xs i d ≡ d
-get_or-past [] i d h = refl
-get_or-past (x ∷ xs) zero d h = absurd (omega arith)
-get_or-past (x ∷ xs) (suc i) d h = get_or-past xs i d (omega arith)
 
 -- ---- writes
 
@@ -94,7 +89,7 @@ known-row_below facts n within = fun_ext at
     at : (r : ℕ) → slice_index_or (row_below (told_by facts) n) r None ≡ told_by facts r
     at r = ⊎_elim
         (λ below. known-below (told_by facts) n r below)
-        (λ above. get_or-past (row_below (told_by facts) n) r None (omega (arith, length-row_below (told_by facts) n)) ∙ sym (told-no_register facts n r within above))
+        (λ above. get_or_past (row_below (told_by facts) n) r None (omega (arith, length-row_below (told_by facts) n)) ∙ sym (told-no_register facts n r within above))
         (cases_lt r n)
 
 -- ---- constants

@@ -4,7 +4,7 @@ use Rattle.std.specs.Prelude.{ℤ, All, Contains, IfSome, slice_get, slice_set, 
 use Rattle.std.specs.Option.{option_map}
 use Rattle.std.proofs.lemmas.Option.{none-some, same_Some, slice_get-get_or, get_or_from_slice_get}
 use Rattle.std.proofs.lemmas.Bool.{not_from_true, not_from_false}
-use Rattle.std.proofs.lemmas.List.Elements.{All-cons, All-nil, All-get_or}
+use Rattle.std.proofs.lemmas.List.Elements.{All-get_or}
 use Rattle.cj_ir.specs.declared.language.Label.{Label}
 use Rattle.cj_ir.proofs.Members.{contains-none, contains-cases, all-from_contains}
 use Rattle.cj_links.specs.Waiting.{Waiting, IsOrderly, without_first}
@@ -52,9 +52,6 @@ arrived-met rows rows' w w' to row arrival e within is lets =
     inl (ap (λ o. is_news o arrival) e ∙ not_from_false (is_within row arrival) within, is ∙ ap (λ o. slice_set rows to.0 (Some (met_with o arrival))) (sym e), lets)
 
 -- ---- one edge
-
-one : (labels : ℕ) (to : Label) → to.0 < labels → All (λ (x : Label). x.0 < labels) (to ∷ [])
-one labels to h = All-cons (λ (x : Label). x.0 < labels) to [] h (All-nil (λ (x : Label). x.0 < labels))
 
 module _ (context : List Fact) (code : Code) (rows : Rows) (w : Waiting) (label to : Label) (p : Place) (at : place_at code label ≡ Some p) (edge : Contains (successors p.instr) to) where
   -- no run is known to come to the label

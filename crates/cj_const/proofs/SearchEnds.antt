@@ -5,7 +5,7 @@ use Rattle.std.specs.Option.{option_map}
 use Rattle.std.proofs.Math.ListN.{get_or-map}
 use Rattle.std.proofs.lemmas.Option.{none-some}
 use Rattle.std.proofs.lemmas.Bool.{cases_eq, cases_lt}
-use Rattle.std.proofs.lemmas.List.{length-map, length-replicate, get_or-replicate}
+use Rattle.std.proofs.lemmas.List.{length-map, length-replicate, get_or-replicate, get_or_past}
 use Rattle.std.proofs.lemmas.List.Elements.{All-weaker, All-set, All-map, All-replicate, All-get_or}
 use Rattle.cj_ir.specs.declared.language.Label.{Label}
 use Rattle.cj_ir.proofs.Members.{contains-none, all-from_contains}
@@ -24,7 +24,6 @@ use Rattle.cj_const.specs.Knowledge.{Knowledge, told_by, known}
 use Rattle.cj_const.specs.Flow.{leaves, facts_at, SaysNoMore, IsWithin, IsConsistent, IsStrongest}
 use Rattle.cj_const.specs.Folding.{facts_below}
 use Rattle.cj_const.specs.Search.{TellsNoMore, SaysLess, facts_in, reached_at, HasWidth, EdgeHolds, IsSearch, LetsWait}
-use Rattle.cj_const.proofs.Rows.{get_or-past}
 use Rattle.cj_const.proofs.Told.{fact, told-contains, fine-told, below-in, in-below, below-fine, fine-one}
 use Rattle.cj_const.proofs.Monotone.{leaves-less}
 use Rattle.cj_const.proofs.SearchSteps.{less-trans, reached-same, reached-other}
@@ -43,7 +42,7 @@ no_row = None
 unreached : (n : ℕ) (x : Label) → reached_at (replicate n None) x ≡ None
 unreached n x = ⊎_elim
     (λ below. ap (option_map known) (get_or-replicate n x.0 no_row None below))
-    (λ past. ap (option_map known) (get_or-past (replicate n no_row) x.0 None (omega (arith, length-replicate n no_row))))
+    (λ past. ap (option_map known) (get_or_past (replicate n no_row) x.0 None (omega (arith, length-replicate n no_row))))
     (cases_lt x.0 n)
 
 among-within : (n : ℕ) (context : List Fact) (facts : Facts) → AreFactsFine n context → AreAmong context facts → IsWithin facts (Some (told_by context))
@@ -99,7 +98,7 @@ known-within : (row : Row) (r : ℕ) (v : ℤ) → known row r ≡ Some v → r 
 unfolding known
 known-within row r v e = ⊎_elim
     (λ below. below)
-    (λ past. absurd (none-some v (sym (get_or-past row r None past) ∙ e)))
+    (λ past. absurd (none-some v (sym (get_or_past row r None past) ∙ e)))
     (cases_lt r (length row))
 
 in-row : (n : ℕ) (row : Row) (r : ℕ) (v : ℤ) → length row ≡ n → known row r ≡ Some v → Contains (facts_below (known row) n) (fact r v)
@@ -152,7 +151,7 @@ module _ (context : List Fact) (code : Code) (rows : Rows) (w : Waiting) (s : Is
   wide : (x : Label) → HasWidth n (slice_index_or rows x.0 None)
   wide x = ⊎_elim
       (λ below. All-get_or (HasWidth n) rows x.0 None below s.found.widths)
-      (λ past. subst (HasWidth n) (sym (get_or-past rows x.0 None past)) tt)
+      (λ past. subst (HasWidth n) (sym (get_or_past rows x.0 None past)) tt)
       (cases_lt x.0 (length rows))
 
   holds : (x to : Label) (place : Place) → place_at code x ≡ Some place → Contains (successors place.instr) to → EdgeHolds rows place.instr x to

@@ -14,6 +14,7 @@ use Rattle.cj_draft.specs.declared.code.Code.{Code}
 use Rattle.cj_links.specs.EdgeTable.{EdgeTable, label_of, list_of, IsBetween, edges_into, given}
 use Rattle.std.proofs.lemmas.List.FromFn.{get_or-map-range_with_len}
 use Rattle.cj_draft.specs.Edges.{successors}
+use Rattle.cj_draft.proofs.Lists.{All-left, All-right}
 use Rattle.cj_delay.specs.DelayedAssume.{is_label, all_nexts}
 use Rattle.cj_delay.specs.CountedEdges.{edges_from, edges_of, AreCounted}
 
@@ -44,14 +45,6 @@ few_edges n (p ∷ places) =
     omega (arith, here, own, few_successors p.instr, few_edges (suc n) places)
 
 -- ---- between labels
-
-All-left : {X : Type 0} (Q : X → Type 0) (xs ys : List X) → All Q (xs ++ ys) → All Q xs
-All-left Q [] ys h = All-nil Q
-All-left Q (x ∷ xs) ys h = All-cons Q x xs (All-head Q x (xs ++ ys) h) (All-left Q xs ys (All-tail Q x (xs ++ ys) h))
-
-All-right : {X : Type 0} (Q : X → Type 0) (xs ys : List X) → All Q (xs ++ ys) → All Q ys
-All-right Q [] ys h = h
-All-right Q (x ∷ xs) ys h = All-right Q xs ys (All-tail Q x (xs ++ ys) h)
 
 from_between : (m n : ℕ) (nexts : List Label) → n < m → All (λ (next : Label). next.0 < m) nexts → All (IsBetween m) (map (λ (next : Label). (label_of n, next)) nexts)
 from_between m n [] within h = All-nil (IsBetween m)

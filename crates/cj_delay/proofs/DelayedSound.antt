@@ -36,7 +36,7 @@ use Rattle.cj_draft.proofs.Ways.{silent-relabel}
 use Rattle.cj_draft.proofs.Insert.{IsKept, IsInserted, NewOn, inserted_sound}
 use Rattle.cj_draft.proofs.Rows.{guard_next-relabel, rows_inserted}
 use Rattle.cj_draft.specs.Edges.{successors, led_to, fresh_label}
-use Rattle.cj_draft.proofs.EdgeLemmas.{relabel_none, relabel_fine, guard_successor, led-same, led-other}
+use Rattle.cj_draft.proofs.EdgeLemmas.{relabel_none, relabel_fine, guard_successor, led-same, led-other, branch_among}
 use Rattle.cj_rows.specs.Rows.{guard_in, guard_at}
 use Rattle.cj_rows.proofs.ListReads.{get-set_same, get-set_other, get-append_left, get-append_end, contains-at}
 use Rattle.cj_rows.proofs.RowLemmas.{has_guard, guard_place}
@@ -47,7 +47,7 @@ use Rattle.cj_delay.specs.CountedEdges.{AreNextsWithin}
 use Rattle.cj_delay.specs.DelaySteps.{IsPathIn}
 use Rattle.cj_delay.proofs.DelayConditions.{CanDelay, IsStep, path_in}
 use Rattle.cj_delay.proofs.PathSteps.{turns_more, turns_first}
-use Rattle.cj_delay.proofs.OneEdge.{branch_in, only_edge, entry_other, named_within, next_within}
+use Rattle.cj_delay.proofs.OneEdge.{only_edge, entry_other, named_within, next_within}
 use Rattle.cj_rows.proofs.WithPairs.{with_old, with_new, with_only}
 
 -- ---- where edges go
@@ -603,7 +603,7 @@ module _ (P : Program) (context : List Fact) (f : FunId) (code : Code) (path : L
     new_on : (i : VInstr) → p.instr ≡ i → SoundEffect P code p regs m (version_effect i regs m) → NewOn P code r New p' regs (version_effect i regs m)
     unfolding version_effect op_effect load_effect store_effect successors is_passed is_turn IsSilentIn
     new_on (Nop next) is s = λ st a q new. inr (carried x p p' q regs at at' kept (ap is_turn is) (subst IsSilentIn (sym is) tt) (λ h. let f : Nop next ≡ Anchor d.is.number d.is.target d.is.next = sym is ∙ h in cc) (λ h. ap (is_passed P p.point) (sym is) ∙ h) (comes (Nop next) next q is (contains-head next []) new))
-    new_on (Cond t a b) is s = λ st arr q new. inr (carried x p p' q regs at at' kept (ap is_turn is) (subst IsSilentIn (sym is) tt) (λ h. let f : Cond t a b ≡ Anchor d.is.number d.is.target d.is.next = sym is ∙ h in cc) (λ h. ap (is_passed P p.point) (sym is) ∙ h) (comes (Cond t a b) (branch (operand_value regs t) a b) q is (branch_in (operand_value regs t) a b) new))
+    new_on (Cond t a b) is s = λ st arr q new. inr (carried x p p' q regs at at' kept (ap is_turn is) (subst IsSilentIn (sym is) tt) (λ h. let f : Cond t a b ≡ Anchor d.is.number d.is.target d.is.next = sym is ∙ h in cc) (λ h. ap (is_passed P p.point) (sym is) ∙ h) (comes (Cond t a b) (branch (operand_value regs t) a b) q is (branch_among (operand_value regs t) a b) new))
     new_on (Assume g b t next) is s = λ h st a q new. inr (guarded_pair x p p' q at at' kept (ap is_turn is) (comes (Assume g b t next) next q is (contains-head next []) new) (λ h. let f : Assume g b t next ≡ Anchor d.is.number d.is.target d.is.next = sym is ∙ h in absurd (cc)))
     new_on (Anchor b t next) is s = λ h st a q new. inr (guarded_pair x p p' q at at' kept (ap is_turn is) (comes (Anchor b t next) next q is (contains-head next []) new) (λ h.
         let same : Anchor b t next ≡ Anchor d.is.number d.is.target d.is.next = sym is ∙ h in

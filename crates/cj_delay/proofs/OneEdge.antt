@@ -1,13 +1,11 @@
 -- Where one edge goes into a label.
-use Rattle.std.proofs.Common.{◌≡◌, ◌≢◌, ℕ, zero, suc, ◌<◌, ◌≤◌, Bool, true, false, cond, List, [], ◌∷◌, length, Some, refl, sym, ap, subst, ⊎_elim, arith, eq-eqb}
-use Rattle.std.specs.Prelude.{slice_get, count_by, All, Contains, nat_eq, ℤ, pos, if◌then◌else◌}
-use Rattle.std.specs.Ordering.{int_eq}
+use Rattle.std.proofs.Common.{◌≡◌, ◌≢◌, ℕ, zero, suc, ◌<◌, ◌≤◌, Bool, cond, List, [], ◌∷◌, length, Some, refl, sym, ap, subst, ⊎_elim, arith, eq-eqb}
+use Rattle.std.specs.Prelude.{slice_get, count_by, All, Contains, nat_eq}
 use Rattle.std.proofs.lemmas.Option.{same_Some, none-some}
-use Rattle.std.proofs.lemmas.List.Elements.{All-nil, All-append, All-contains, Contains-append_cases, Contains-append_right}
+use Rattle.std.proofs.lemmas.List.Elements.{All-nil, All-append, All-contains, Contains-append_cases}
 use Rattle.cj_ir.specs.declared.language.Label.{Label}
 use Rattle.cj_ir.specs.declared.language.Program.{Program}
-use Rattle.cj_ir.proofs.Members.{contains-none, contains-one, contains-head}
-use Rattle.cj_base.specs.Machine.{branch}
+use Rattle.cj_ir.proofs.Members.{contains-none, contains-one}
 use Rattle.cj_draft.specs.declared.code.Place.{Place}
 use Rattle.cj_draft.specs.declared.code.Code.{Code}
 use Rattle.cj_draft.specs.Arrives.{place_at}
@@ -66,14 +64,6 @@ entry_other code l x p one at c e =
     omega (arith, one, start, count_nexts l code.places x.0 p at c)
 
 -- ---- edges of a code
-
-pub branch_in : (test : ℤ) (a b : Label) → Contains (a ∷ b ∷ []) (branch test a b)
-unfolding branch
-branch_in test a b = by_test (int_eq test (pos 0))
-  where
-    by_test : (is_zero : Bool) → Contains (a ∷ b ∷ []) (if is_zero then b else a)
-    by_test true = Contains-append_right (a ∷ []) (b ∷ []) b (contains-head b [])
-    by_test false = contains-head a (b ∷ [])
 
 nexts_within : (P : Program) (regs n : ℕ) (places : List Place) → ((i : ℕ) (p : Place) → slice_get places i ≡ Some p → IsPlaceFine P regs n p) → All (λ (y : Label). y.0 < n) (all_nexts places)
 unfolding all_nexts

@@ -1,11 +1,11 @@
 -- Steps of a path.
-use Rattle.std.proofs.Common.{◌≡◌, ℕ, zero, suc, ◌+◌, ◌-◌, ◌<◌, ◌≤◌, Bool, true, false, not, ◌&&◌, ◌||◌, cond, List, [], ◌∷◌, ◌++◌, length, get_or, take, drop, Option, Some, None, refl, sym, ap, ◌∙◌, subst, arith}
+use Rattle.std.proofs.Common.{◌≡◌, ℕ, zero, suc, ◌+◌, ◌-◌, ◌<◌, ◌≤◌, Bool, true, false, not, ◌||◌, cond, List, [], ◌∷◌, ◌++◌, length, get_or, take, drop, Option, Some, None, refl, sym, ap, ◌∙◌, subst, arith}
 use Rattle.std.specs.Prelude.{slice_get, count_by, Contains, nat_eq}
 use Rattle.std.specs.List.{list_any}
 use Rattle.std.proofs.lemmas.List.{take_more}
 use Rattle.std.proofs.lemmas.List.Elements.{All-contains, Contains-append_left, Contains-append_right}
 use Rattle.std.proofs.lemmas.Option.{none-some}
-use Rattle.std.proofs.lemmas.Bool.{eqb-true}
+use Rattle.std.proofs.lemmas.Bool.{eqb-true, and_parts}
 use Rattle.cj_ir.specs.declared.language.Label.{Label}
 use Rattle.cj_ir.specs.declared.language.Program.{Program}
 use Rattle.cj_ir.proofs.Labels.{same_label}
@@ -30,14 +30,10 @@ any_contains label (x ∷ labels) e = by_test (nat_eq x.0 label.0) refl (λ h. a
     by_test true is more e = (0, omega arith, same_label x label (eqb-true x.0 label.0 is))
     by_test false is more e = Contains-append_right (x ∷ []) labels label (more e)
 
-and_true : (a b : Bool) → a && b ≡ true → (a ≡ true) × (b ≡ true)
-and_true true b e = (refl, e)
-and_true false b e = let f : false ≡ true = e in absurd (cc)
-
 pub edge_parts : (code : Code) (path : List Label) (at : ℕ) → is_edge code path at ≡ true → Contains (nexts_in (place_at code (on_path path (at - 1)))) (on_path path at) × (not (list_any (is_label (on_path path at)) (take at path)) ≡ true)
 unfolding is_edge
 edge_parts code path at e =
-    let parts = and_true (list_any (is_label (on_path path at)) (nexts_in (place_at code (on_path path (at - 1))))) (not (list_any (is_label (on_path path at)) (take at path))) e in
+    let parts = and_parts (list_any (is_label (on_path path at)) (nexts_in (place_at code (on_path path (at - 1))))) (not (list_any (is_label (on_path path at)) (take at path))) e in
     (any_contains (on_path path at) (nexts_in (place_at code (on_path path (at - 1)))) parts.0, parts.1)
 
 -- what a place goes on to, all places do

@@ -1,6 +1,7 @@
 -- The labels to which instructions go on, and edges that are led elsewhere.
-use Rattle.std.proofs.Common.{◌≡◌, ◌≢◌, ℕ, ◌<◌, cond, [], ◌∷◌, Some, refl, ap, ◌∙◌, subst, eq-eqb}
-use Rattle.std.specs.Prelude.{All, Contains}
+use Rattle.std.proofs.Common.{if◌then◌else◌, ◌≡◌, ◌≢◌, ℕ, ◌<◌, Bool, true, false, cond, [], ◌∷◌, Some, refl, ap, ◌∙◌, subst, eq-eqb}
+use Rattle.std.specs.Prelude.{All, Contains, ℤ, pos}
+use Rattle.std.specs.Ordering.{int_eq}
 use Rattle.std.proofs.lemmas.Bool.{ne_eqb}
 use Rattle.std.proofs.lemmas.Option.{same_Some, none-some}
 use Rattle.std.proofs.lemmas.List.Elements.{All-cons, All-nil, All-contains}
@@ -14,6 +15,7 @@ use Rattle.cj_draft.specs.Edges.{successors, led_to}
 use Rattle.cj_draft.specs.Relabel.{relabel}
 use Rattle.cj_draft.specs.Sound.{guard_next}
 use Rattle.cj_draft.specs.WellNamed.{IsVInstrFine}
+use Rattle.cj_base.specs.Machine.{branch}
 
 -- ---- edges to one label
 
@@ -24,6 +26,21 @@ led-same label fresh x e = ap (λ b. cond b fresh x) (eq-eqb x.0 label.0 (ap (λ
 pub led-other : (label fresh x : Label) → x ≢ label → led_to label fresh x ≡ x
 unfolding led_to
 led-other label fresh x ne = ap (λ b. cond b fresh x) (ne_eqb x.0 label.0 (λ e. ne (same_label x label e)))
+
+-- ---- the labels of a branch
+
+-- what holds of both holds of the one that is taken
+pub branch_in : (R : Label → Type 0) (test : ℤ) (x y : Label) → R x → R y → R (branch test x y)
+unfolding branch
+branch_in R test x y rx ry = by_test (int_eq test (pos 0))
+  where
+    by_test : (is_zero : Bool) → R (if is_zero then y else x)
+    by_test true = ry
+    by_test false = rx
+
+pub branch_among : (test : ℤ) (x y : Label) → Contains (x ∷ y ∷ []) (branch test x y)
+branch_among test x y =
+    branch_in (Contains (x ∷ y ∷ [])) test x y (contains-head x (y ∷ [])) (contains-tail x y (y ∷ []) (contains-head y []))
 
 -- ---- the labels of an instruction
 

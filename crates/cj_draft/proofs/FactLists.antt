@@ -5,11 +5,12 @@ use Rattle.std.specs.List.{Contains, AllPairs}
 use Rattle.std.specs.List.Sorted.{IsStrictlyIncreasing}
 use Rattle.std.proofs.lemmas.List.{length-map, length-replicate, get_or-replicate, get_or-set_same, get_or-set_other}
 use Rattle.std.proofs.lemmas.List.Kept.{AllPairs-from_increasing}
-use Rattle.std.proofs.lemmas.List.Elements.{All-contains, All-cons, All-nil, All-tail, All-head, All-weaker, All-contains_itself}
+use Rattle.std.proofs.lemmas.List.Elements.{All-contains, All-cons, All-nil, All-tail, All-head, All-weaker}
 use Rattle.std.proofs.lemmas.Int.{ints}
 use Rattle.std.proofs.Math.ListN.{get_or-map}
 use Rattle.std.proofs.lemmas.Bool.{cases_eq}
 use Rattle.cj_ir.specs.Values.{register}
+use Rattle.cj_ir.proofs.Members.{all-from_contains}
 use Rattle.cj_draft.specs.declared.facts.Fact.{Fact}
 use Rattle.cj_draft.specs.declared.facts.Facts.{Facts}
 use Rattle.cj_draft.specs.declared.facts.Facts.TheVariants.{Unreached, Known}
@@ -54,9 +55,6 @@ differ-from_increasing facts up = differ_from facts (AllPairs-from_increasing (n
 filled_keeps : (x : Fact) (facts : List Fact) (regs : List ℤ) → All (λ y. y.reg.0 ≢ x.reg.0) facts → (all : List Fact) → ((y : Fact) → Contains facts y → register (filled all regs) y.reg.0 ≡ y.value) → (y : Fact) → Contains facts y → register (slice_set (filled all regs) x.reg.0 x.value) y.reg.0 ≡ y.value
 filled_keeps x facts regs differ all h y c =
     get_or-set_other (filled all regs) x.reg.0 y.reg.0 x.value (pos 0) (All-contains (λ z. z.reg.0 ≢ x.reg.0) facts y differ c) ∙ h y c
-
-all-from_contains : (P : Fact → Type 0) (facts : List Fact) → ((y : Fact) → Contains facts y → P y) → All P facts
-all-from_contains P facts h k d lt = h (slice_index_or facts k d) (All-contains_itself facts k d lt)
 
 pub filled_satisfies : (facts : List Fact) (regs : List ℤ) → AllDiffer facts → All (λ x. x.reg.0 < length regs) facts → Satisfies facts (filled facts regs)
 unfolding filled

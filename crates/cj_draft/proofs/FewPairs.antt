@@ -17,9 +17,9 @@ use Rattle.cj_draft.specs.WellNamed.{ArePairsFine}
 numbered : ℕ → Reg
 numbered n = record { 0 = n }
 
-reg_same : (r s : Reg) → r.0 ≡ s.0 → r ≡ s
+pub same_reg : (r s : Reg) → r.0 ≡ s.0 → r ≡ s
 unfolding numbered
-reg_same r s e = ap numbered e
+same_reg r s e = ap numbered e
 
 dest_number : Pair → ℕ
 dest_number pair = pair.dest.0
@@ -34,7 +34,7 @@ numbers_differ pairs x differ i j d lt within = λ e.
     let first : i < length pairs = omega arith in
     let one = slice_index_or pairs i x in
     let other = slice_index_or pairs j x in
-    differ i j x lt last (reg_same one.dest other.dest (sym (dest_at pairs i d x first) ∙ e ∙ dest_at pairs j d x last))
+    differ i j x lt last (same_reg one.dest other.dest (sym (dest_at pairs i d x first) ∙ e ∙ dest_at pairs j d x last))
 
 pub few_pairs : (n : ℕ) (pairs : List Pair) → ArePairsFine n pairs → length pairs ≤ n
 unfolding dest_number

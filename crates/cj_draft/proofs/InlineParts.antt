@@ -26,6 +26,7 @@ use Rattle.cj_draft.specs.Arrives.{Satisfies, Allows, IsAtCall, left_by, left_wa
 use Rattle.cj_draft.specs.Inlining.{shift_reg, shift_fact, joined_facts, appended_by, appended_frames, entry_pairs}
 use Rattle.cj_draft.proofs.Extend.{operands_left, waiting_left, satisfies_left, satisfies_right}
 use Rattle.cj_draft.proofs.Inlined.{register_shift}
+use Rattle.cj_draft.proofs.Lists.{All-left, All-right}
 
 -- ---- arguments have registers
 
@@ -150,15 +151,6 @@ shifted_satisfied a b (x ∷ own) h zero d lt = sym (register_shift a b x.reg.0)
 shifted_satisfied a b (x ∷ own) h (suc k) d lt =
     shifted_satisfied a b own (All-tail (λ y. register (a ++ b) y.reg.0 ≡ y.value) (shift_fact (length a) x) (map (shift_fact (length a)) own) h) k d (omega arith)
 
-all_left : (P : Fact → Type 0) (xs ys : List Fact) → All P (xs ++ ys) → All P xs
-all_left P [] ys h k d lt = absurd (omega arith)
-all_left P (x ∷ xs) ys h zero d lt = h 0 d (omega arith)
-all_left P (x ∷ xs) ys h (suc k) d lt = all_left P xs ys (All-tail P x (xs ++ ys) h) k d (omega arith)
-
-all_right : (P : Fact → Type 0) (xs ys : List Fact) → All P (xs ++ ys) → All P ys
-all_right P [] ys h = h
-all_right P (x ∷ xs) ys h = all_right P xs ys (All-tail P x (xs ++ ys) h)
-
 -- the joined facts allow what both allow
 pub allows_joined : (a b : List ℤ) (facts own : Facts) → HasFineFacts (length a) facts → Allows (joined_facts (length a) facts own) (a ++ b) ↔ (Allows facts a × Allows own b)
 unfolding joined_facts
@@ -166,8 +158,8 @@ allows_joined a b Unreached own fine = ((λ h. absurd h), (λ h. absurd h.0))
 allows_joined a b (Known facts) Unreached fine = ((λ h. absurd h), (λ h. absurd h.1))
 allows_joined a b (Known facts) (Known own) fine = (
   (λ h. (
-    satisfies_right a b facts fine.registers (all_left (λ x. register (a ++ b) x.reg.0 ≡ x.value) facts (map (shift_fact (length a)) own) h),
-    shifted_satisfied a b own (all_right (λ x. register (a ++ b) x.reg.0 ≡ x.value) facts (map (shift_fact (length a)) own) h),
+    satisfies_right a b facts fine.registers (All-left (λ x. register (a ++ b) x.reg.0 ≡ x.value) facts (map (shift_fact (length a)) own) h),
+    shifted_satisfied a b own (All-right (λ x. register (a ++ b) x.reg.0 ≡ x.value) facts (map (shift_fact (length a)) own) h),
   )),
   (λ h. All-append (λ x. register (a ++ b) x.reg.0 ≡ x.value) facts (map (shift_fact (length a)) own) (satisfies_left a b facts fine.registers h.0) (satisfies_shifted a b own h.1)),
 )

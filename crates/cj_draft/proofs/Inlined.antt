@@ -1,6 +1,6 @@
 -- A callee's places inside a caller: registers shifted, labels shifted, and the caller's frames appended.
 use Rattle.std.proofs.Common.{◌≡◌, ℕ, suc, ◌+◌, Bool, List, [], ◌∷◌, ◌++◌, length, map, Option, Some, None, refl, ap, ap₂, ◌∙◌, arith}
-use Rattle.std.specs.Prelude.{ℤ, pos, slice_set, if◌then◌else◌, true, false, ◌&&◌}
+use Rattle.std.specs.Prelude.{ℤ, pos, slice_set, ◌&&◌}
 use Rattle.std.specs.Ordering.{int_eq}
 use Rattle.std.proofs.lemmas.List.{map-append, get_or-append-add}
 use Rattle.cj_ir.specs.Values.{register, operand_value, expr_value}
@@ -20,6 +20,7 @@ use Rattle.cj_draft.specs.Points.{frame_regs, top_of, waiting_of, stack_of, fram
 use Rattle.cj_draft.specs.Effects.{VersionEffect, Plain, Guarded, guard_holds, guards_hold, moved, version_effect}
 use Rattle.cj_draft.specs.Inlining.{shift_reg, shift_label, shift_operand, shift_guard, shift_pair, shift_frame, joined, inlined_instr}
 use Rattle.cj_draft.proofs.OperandLemmas.{operands_value}
+use Rattle.cj_draft.proofs.Ways.{branch-relabel}
 
 -- ---- values
 
@@ -91,14 +92,6 @@ unfolding with_value inlined_plain
 value_inlined a b m k dest after None fault go go' h = refl
 value_inlined a b m k dest after (Some v) fault go go' h = h v
 
-branch-shift : (k : ℕ) (test : ℤ) (x y : Label) → branch test (shift_label k x) (shift_label k y) ≡ shift_label k (branch test x y)
-unfolding branch
-branch-shift k test x y = by_test (int_eq test (pos 0))
-  where
-    by_test : (is_zero : Bool) → (if is_zero then shift_label k y else shift_label k x) ≡ shift_label k (if is_zero then y else x)
-    by_test true = refl
-    by_test false = refl
-
 pub effect-inlined : (a b m : List ℤ) (k : ℕ) (tail : List PointFrame) (dest : Reg) (after : Label) (i : VInstr) → version_effect (inlined_instr (length a) k tail dest after i) (a ++ b) m ≡ inlined_effect a b m k tail dest after (version_effect i b m)
 unfolding version_effect inlined_instr inlined_effect inlined_plain op_effect load_effect store_effect moved shift_reg
 effect-inlined a b m k tail dest after (Nop n) = refl
@@ -108,7 +101,7 @@ effect-inlined a b m k tail dest after (Op d e n) =
 effect-inlined a b m k tail dest after (Move ps n) = ap (λ r. Plain (On (shift_label k n) r m [])) (moved_shift a b b ps)
 effect-inlined a b m k tail dest after (Cond t x y) =
     ap (λ v. Plain (On (branch v (shift_label k x) (shift_label k y)) (a ++ b) m [])) (operand_shift a b t)
-    ∙ ap (λ l. Plain (On l (a ++ b) m [])) (branch-shift k (operand_value b t) x y)
+    ∙ ap (λ l. Plain (On l (a ++ b) m [])) (branch-relabel (shift_label k) (operand_value b t) x y)
 effect-inlined a b m k tail dest after (Call d f args n) = ap (λ xs. Plain (Calls (shift_reg (length a) d) f xs (shift_label k n))) (operands_shift a b args)
 effect-inlined a b m k tail dest after (Return v) = ap (λ x. Plain (On after (slice_set (a ++ b) dest.0 x) m [])) (operand_shift a b v)
 effect-inlined a b m k tail dest after (Print v n) = ap (λ x. Plain (On (shift_label k n) (a ++ b) m (x ∷ []))) (operand_shift a b v)

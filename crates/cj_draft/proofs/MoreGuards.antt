@@ -1,7 +1,9 @@
 -- Further guards of an Assume keep that a code is sound: with them fewer registers pass.
-use Rattle.std.proofs.Common.{◌≡◌, ℕ, ◌⊎◌, Bool, true, false, List, [], ◌∷◌, ◌++◌, Some, refl, sym, ◌∙◌, subst, ⊎_elim}
-use Rattle.std.specs.Prelude.{ℤ, ◌&&◌}
+use Rattle.std.proofs.Common.{◌≡◌, ℕ, ◌⊎◌, true, List, [], ◌∷◌, ◌++◌, Some, refl, sym, ◌∙◌, subst, ⊎_elim}
+use Rattle.std.proofs.lemmas.Bool.{and_parts}
+use Rattle.std.specs.Prelude.{ℤ}
 use Rattle.std.specs.List.{Contains}
+use Rattle.std.specs.Cmp.Derive.{both_true}
 use Rattle.cj_ir.specs.declared.language.FunId.{FunId}
 use Rattle.cj_ir.specs.declared.language.Label.{Label}
 use Rattle.cj_ir.specs.declared.language.Program.{Program}
@@ -19,25 +21,13 @@ use Rattle.cj_draft.specs.Sound.{IsSilentIn, Resumes, StepsGuarded, SoundEffect,
 use Rattle.cj_draft.proofs.Ways.{relabel-same, Grown, grown-same, effect_way, guarded_way, resumes_way}
 use Rattle.cj_draft.proofs.SamePlaces.{KeepsPlaces, same_way, same_ways, same_entry_facts}
 
-left_true : (a b : Bool) → a && b ≡ true → a ≡ true
-left_true true b h = refl
-left_true false b h = h
-
-right_true : (a b : Bool) → a && b ≡ true → b ≡ true
-right_true true b h = h
-right_true false b h = absurd (cc)
-
-both_true : (a b : Bool) → a ≡ true → b ≡ true → a && b ≡ true
-both_true true b h k = k
-both_true false b h k = h
-
 -- where more guards hold, the first of them do
 pub guards_hold-append : (regs : List ℤ) (guards more : List Guard) → guards_hold regs (guards ++ more) ≡ true → guards_hold regs guards ≡ true
 unfolding guards_hold
 guards_hold-append regs [] more h = refl
 guards_hold-append regs (g ∷ guards) more h =
-    let rest = guards_hold-append regs guards more (right_true (guard_holds regs g) (guards_hold regs (guards ++ more)) h) in
-    both_true (guard_holds regs g) (guards_hold regs guards) (left_true (guard_holds regs g) (guards_hold regs (guards ++ more)) h) rest
+    let parts = and_parts (guard_holds regs g) (guards_hold regs (guards ++ more)) h in
+    both_true parts.0 (guards_hold-append regs guards more parts.1)
 
 -- the Assume with further guards
 unfoldable pub with_guards : List Guard → ℕ → Point → Label → Place → Place

@@ -27,7 +27,7 @@ use Rattle.cj_draft.specs.RelabelEffects.{relabel_plain, relabel_effect}
 
 -- ---- the effect of a relabelled instruction
 
-branch-relabel : (r : Label → Label) (test : ℤ) (a b : Label) → branch test (r a) (r b) ≡ r (branch test a b)
+pub branch-relabel : (r : Label → Label) (test : ℤ) (a b : Label) → branch test (r a) (r b) ≡ r (branch test a b)
 unfolding branch
 branch-relabel r test a b = by_test (int_eq test (pos 0))
   where

@@ -1,9 +1,9 @@
 -- A top call's answer from its two halves.
 use Rattle.std.proofs.Common.{◌≡◌, ◌∙◌, sym, subst, refl, ℕ, ◌+◌, ◌<◌, ◌≤◌, List, [], length, Option, Some, None, Result, Ok, Err, inl, inr, arith}
+use Rattle.std.proofs.KnownBytes.{Appends-nil}
 use Rattle.std.specs.Prelude.{◌≢◌, ◌⊎◌, IfSome}
 use Rattle.std.specs.Io.KnownBytes.{Appends}
 use Rattle.cj_tokens.specs.declared.refusal.Refused.{Refused}
-use Rattle.cj_io.proofs.Known.{Appends-none}
 use Rattle.cj_io.specs.Reading.{GaveMore}
 use Rattle.cj_calls.specs.declared.report.Report.{Report}
 use Rattle.cj_driver.specs.Outside.{Outside, outside, longest, AreWhole}
@@ -78,7 +78,7 @@ wanted IsOwed had faults f status refused reports = record {
   done = λ s. let never : 6 ≡ 0 = sym status ∙ s in absurd (omega arith);
   cut = λ s. let never : 6 ≡ 5 = sym status ∙ s in absurd (omega arith);
   fault = λ s. let never : 6 ≡ 5 = sym status ∙ s in absurd (omega arith);
-  none = λ s. (reports, Appends-none had);
+  none = λ s. (reports, Appends-nil had);
 }
 
 zero_five_six : (s : ℕ) → (s ≡ 0) ⊎ (s ≡ 5) ⊎ (s ≡ 6) → s ≢ 0 → s ≢ 5 → s ≡ 6
@@ -225,4 +225,4 @@ stop_answers t o stop.NoMemory f nothing stands fin = record {
 -- a call that stopped before it touched the sink
 pub stopped : (t : Task) (given left had : Option (List ℕ)) (faults faults_now writes : ℕ) (s : Stop) (f : Finish) → StopStands t given left faults faults_now s → StopFinishes s f → Answers t (outside given left had had faults faults_now writes writes) f
 stopped t given left had faults faults_now writes s f stands fin =
-    stop_answers t (outside given left had had faults faults_now writes writes) s f (Appends-none had) stands fin
+    stop_answers t (outside given left had had faults faults_now writes writes) s f (Appends-nil had) stands fin

@@ -5,14 +5,11 @@ use Rattle.std.specs.List.{list_all}
 use Rattle.std.specs.Str.{all_ascii_digits}
 use Rattle.std.specs.Str.Parse.{ParsesUnsigned}
 use Rattle.std.proofs.lemmas.Bool.Decides.{nat_tests}
-use Rattle.std.proofs.lemmas.Str.Parse.{IsNumeralModel, numerals_by_fold, parse_gives, digits_value_short}
+use Rattle.std.proofs.lemmas.Str.Parse.{parse_gives, digits_value_short}
 use Rattle.cj_tokens.specs.Spellings.{value}
+use Rattle.cj_tokens.proofs.Again.{value_is_numeral}
 use Rattle.cj_driver.specs.Commands.{is_bench_number, bench_of}
 use Rattle.cj_driver.specs.declared.command.Command.TheVariants.{Bench}
-
-own : IsNumeralModel (λ ds. all_ascii_digits ds ≡ true) (value 0)
-unfolding value
-own = numerals_by_fold _ (search rules) value (search rules)
 
 digits_all : (bytes : List ℕ) → list_all is_ascii_digit bytes ≡ all_ascii_digits bytes
 digits_all [] = refl
@@ -22,8 +19,8 @@ digits_all (byte ∷ bytes) = ap (λ rest. is_ascii_digit byte && rest) (digits_
 read_as : {E : Type 0} (bytes : List ℕ) (answer : Result ℕ E) → list_all is_ascii_digit bytes ≡ true → 0 < length bytes → length bytes ≤ 6 → ParsesUnsigned 32 10 bytes answer → answer ≡ Ok (value 0 bytes)
 read_as bytes answer digits some short parses =
     let all : all_ascii_digits bytes ≡ true = sym (digits_all bytes) ∙ digits in
-    let small : value 0 bytes < 10 ^ 6 = digits_value_short own bytes 6 all short in
-    parse_gives own 32 bytes answer parses all some (omega (arith, small))
+    let small : value 0 bytes < 10 ^ 6 = digits_value_short value_is_numeral bytes 6 all short in
+    parse_gives value_is_numeral 32 bytes answer parses all some (omega (arith, small))
 
 bench_value : {E : Type 0} (bytes : List ℕ) (answer : Result ℕ E) → is_bench_number bytes ≡ true → ParsesUnsigned 32 10 bytes answer → answer ≡ Ok (value 0 bytes)
 bench_value bytes answer is parses =

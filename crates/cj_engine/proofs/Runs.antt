@@ -168,13 +168,6 @@ unfolding version_run one_turn_more
 run_next P call codes later trail more n s o g before turn =
     rw add-one (ap (one_turn_more P later (trail ++ more)) (run_later P call codes later g trail more n (Continues s) (continues_defined s) before) ∙ turn)
 
--- the same, by the state's own count of turns
-pub run_goes_on : (P : Program) (call : Begun) (codes later : Codes) (trail more : List Look) (s now : State) → Grows codes later → version_run P codes trail call s.turns ≡ Continues s → version_turn P later (slice_get (trail ++ more) s.entries) s ≡ Continues now → version_run P later (trail ++ more) call now.turns ≡ Continues now
-run_goes_on P call codes later trail more s now g before turn =
-    let next = run_next P call codes later trail more s.turns s (Continues now) g before turn in
-    let e : s.turns + 1 ≡ now.turns = sym (run_turns P later (trail ++ more) call (s.turns + 1) now next) in
-    subst (λ n. version_run P later (trail ++ more) call n ≡ Continues now) e next
-
 -- a run that has ended stays so
 finished_more : (P : Program) (codes : Codes) (trail : List Look) (call : Begun) (n d : ℕ) (end : End) (s : State) → version_run P codes trail call n ≡ Finishes end s → version_run P codes trail call (d + n) ≡ Finishes end s
 unfolding version_run one_turn_more
@@ -190,7 +183,7 @@ finished_stays P codes trail call n m end s e le =
 
 -- ---- the report
 
-used_whole : (trail : List Look) (end : End) (s : State) → s.entries ≡ length trail → if_used trail end s ≡ Some (report_of trail end s)
+pub used_whole : (trail : List Look) (end : End) (s : State) → s.entries ≡ length trail → if_used trail end s ≡ Some (report_of trail end s)
 unfolding if_used
 used_whole trail end s used =
     ap (λ b. if b then Some (report_of trail end s) else None) (eq-eqb s.entries (length trail) used)

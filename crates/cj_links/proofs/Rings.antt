@@ -14,6 +14,7 @@ use Rattle.cj_ir.proofs.Marks.{count-none, count-set, count-unset, count-below, 
 use Rattle.cj_ir.proofs.Members.{contains-none, contains-one}
 use Rattle.cj_ir.proofs.Labels.{same_label}
 use Rattle.cj_links.proofs.Windows.{length-window, window_after_put, window_before_take, mod_within}
+use Rattle.cj_links.proofs.Members.{once-head}
 
 -- ---- none waits
 
@@ -107,9 +108,6 @@ ring_more slots k n marks x r at =
 
 -- ---- the longest waiting label goes
 
-head-once : (x : Label) (list : List Label) → AllPairs (λ one other. one ≢ other) (x ∷ list) → Contains list x → ⊥
-head-once x list once c = once 0 (suc c.0) x (omega arith) (let h = c.1 in omega arith) (sym c.2)
-
 marked_less : (list : List Label) (marks : List Bool) (x : Label) → AllPairs (λ one other. one ≢ other) (x ∷ list) → AreMarked (x ∷ list) marks → AreMarked list (slice_set marks x.0 false)
 marked_less list marks x once m = record {
   number = let n = m.number in omega (arith, count-unset marks x.0 at);
@@ -120,7 +118,7 @@ marked_less list marks x once m = record {
       (λ rest. rest)
       (Contains-append_cases (x ∷ []) list y (m.listed y (sym (get-set_other marks x.0 y.0 false other) ∙ e))))
       (cases_eq y.0 x.0);
-  marked = λ y c. get-set_other marks x.0 y.0 false (λ same. head-once x list once (subst (Contains list) (same_label y x same) c))
+  marked = λ y c. get-set_other marks x.0 y.0 false (λ same. once-head x list once (subst (Contains list) (same_label y x same) c))
       ∙ m.marked y (Contains-append_right (x ∷ []) list y c);
 }
   where

@@ -2,10 +2,10 @@
 use Rattle.std.proofs.Common.{if◌then◌else◌, ◌≡◌, ◌≢◌, ℕ, zero, suc, ◌+◌, ◌-◌, ◌^◌, ◌<◌, ◌≤◌, Bool, List, [], ◌∷◌, ◌++◌, length, get_or, Some, None, refl, sym, ap, ap₂, ◌∙◌, subst, ⊎_elim, arith, length-set, length-append, get_or-set_same, get_or-set_other}
 use Rattle.std.specs.Prelude.{Contains, All, AllPairs, slice_get, slice_set}
 use Rattle.std.proofs.lemmas.Bool.{cases_eq, lt-ltb, le-ltb}
-use Rattle.std.proofs.lemmas.List.{same_lists}
+use Rattle.std.proofs.lemmas.List.{same_lists, get_or_default}
 use Rattle.std.proofs.lemmas.List.FromFn.{length-map-range_with_len, get_or-map-range_with_len}
 use Rattle.std.proofs.lemmas.List.Elements.{All-contains, All-push, All-set, Contains-append_cases}
-use Rattle.std.proofs.lemmas.Option.{same_Some, none-some, slice_get-get_or}
+use Rattle.std.proofs.lemmas.Option.{same_Some, none-some}
 use Rattle.cj_ir.specs.declared.language.Label.{Label}
 use Rattle.cj_ir.proofs.Members.{contains-none, contains-one, contains-head, contains-tail, contains-cases, all-from_contains}
 use Rattle.cj_links.specs.declared.edges.EdgeId.{EdgeId}
@@ -14,9 +14,6 @@ use Rattle.cj_links.specs.EdgeTable.{EdgeTable, edge_table, label_of, edge_of, e
 use Rattle.cj_links.specs.Threads.{after_of, before_of, lead, Chain, nodes_of, edge_at, walk, walks, table_of, IsThreaded}
 use Rattle.cj_links.proofs.Members.{same_edge, nodes-contain, node-edge, nodes-listed, nodes-apart, without-contains, without-gone, without-once, without-count, few_edges, append-once, nodes-without, nodes-append}
 use Rattle.cj_links.proofs.Chains.{length-lead, chain_lead, chain_last, chain_before, chain_first, chain_after, cut, lead_both, join}
-
-pub other_default : {X : Type 0} (xs : List X) (k : ℕ) (d e : X) → k < length xs → get_or xs k d ≡ get_or xs k e
-other_default xs k d e h = same_Some (get_or xs k d) (get_or xs k e) (sym (slice_get-get_or xs k d h) ∙ slice_get-get_or xs k e h)
 
 -- ---- lists
 
@@ -272,7 +269,7 @@ module _ (labels : ℕ) (nodes : List Node) (counts : List ℕ) (edges : List (L
       get_or-map-range_with_len f 0 labels k k d within (omega arith)
       ∙ ap (λ n. walk labels nodes n (after_of nodes k)) (t.counted k within)
       ∙ walk_chain (get_or lists k []) k k (t.chained k within)
-      ∙ other_default lists k [] d inside)
+      ∙ get_or_default lists k [] d inside)
     where
       walk_chain : (list : List EdgeId) (a z : ℕ) → Chain nodes a (nodes_of labels list) z → walk labels nodes (length list) (after_of nodes a) ≡ list
       walk_chain [] a z c = refl

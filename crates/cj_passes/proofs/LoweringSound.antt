@@ -1,7 +1,6 @@
 -- The lowered code is sound and has no Anchors.
-use Rattle.std.proofs.Common.{◌≡◌, ℕ, zero, suc, ◌<◌, Bool, true, false, List, [], ◌∷◌, length, take, Option, Some, None, refl, sym, ap, ◌∙◌, subst, inl, inr, arith}
-use Rattle.std.specs.Prelude.{ℤ, pos, slice_get, slice_set, Contains, if◌then◌else◌}
-use Rattle.std.specs.Ordering.{int_eq}
+use Rattle.std.proofs.Common.{◌≡◌, ℕ, zero, suc, ◌<◌, Bool, true, List, [], ◌∷◌, length, take, Option, Some, None, refl, sym, ap, ◌∙◌, subst, inl, inr, arith}
+use Rattle.std.specs.Prelude.{ℤ, slice_get, slice_set, Contains}
 use Rattle.std.specs.Option.{option_map}
 use Rattle.std.proofs.lemmas.Option.{same_Some, none-some, slice_get-map}
 use Rattle.std.proofs.lemmas.List.{length-map}
@@ -12,7 +11,7 @@ use Rattle.cj_ir.specs.declared.language.Label.{Label}
 use Rattle.cj_ir.specs.declared.language.Program.{Program}
 use Rattle.cj_ir.proofs.Marks.{count_marks}
 use Rattle.cj_ir.proofs.Members.{contains-head, contains-one}
-use Rattle.cj_base.specs.Machine.{Fault, BadAddress, ZeroDivisor, Effect, On, with_value, cell, with_cell, branch, op_effect, load_effect, store_effect}
+use Rattle.cj_base.specs.Machine.{Fault, BadAddress, ZeroDivisor, Effect, On, with_value, cell, with_cell, op_effect, load_effect, store_effect}
 use Rattle.cj_draft.specs.declared.facts.Fact.{Fact}
 use Rattle.cj_draft.specs.declared.instructions.VInstr.{VInstr}
 use Rattle.cj_draft.specs.declared.instructions.VInstr.TheVariants.{Nop, Op, Move, Cond, Call, Return, Print, Load, Store, Fail, Assume, Anchor}
@@ -30,7 +29,7 @@ use Rattle.cj_draft.proofs.Insert.{IsKept}
 use Rattle.cj_draft.proofs.Rows.{guard_next-relabel}
 use Rattle.cj_draft.proofs.Lowering.{NoPair, ReachesOn, lowered_sound}
 use Rattle.cj_draft.proofs.Lowering.{IsLowered as GoesTo}
-use Rattle.cj_draft.proofs.EdgeLemmas.{relabel_fine, guard_successor}
+use Rattle.cj_draft.proofs.EdgeLemmas.{relabel_fine, guard_successor, branch_in}
 use Rattle.cj_draft.specs.Edges.{successors}
 use Rattle.cj_rows.specs.Rows.{anchor_next, anchor_at}
 use Rattle.cj_rows.specs.Edges.{led_place, IsClosed}
@@ -41,14 +40,6 @@ use Rattle.cj_passes.proofs.Passing.{IsAnchorTo, has_anchor, anchor-at_place, pa
 use Rattle.cj_passes.proofs.Searching.{reached_within}
 
 -- ---- the labels to which an effect leads are successors
-
-branch_in : (R : Label → Type 0) (test : ℤ) (x y : Label) → R x → R y → R (branch test x y)
-unfolding branch
-branch_in R test x y rx ry = by_test (int_eq test (pos 0))
-  where
-    by_test : (is_zero : Bool) → R (if is_zero then y else x)
-    by_test true = ry
-    by_test false = rx
 
 value_in : (R : Label → Type 0) (o : Option ℤ) (fault : Fault) (go : ℤ → Effect) → ((v : ℤ) → ReachesOn R (Plain (go v))) → ReachesOn R (Plain (with_value o fault go))
 unfolding with_value

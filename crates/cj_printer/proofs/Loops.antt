@@ -1,5 +1,5 @@
 -- Texts of pieces, one item after another.
-use Rattle.std.proofs.Common.{◌≡◌, ◌∙◌, sym, ap, refl, ℕ, ℤ, ◌+◌, ◌<◌, ◌≤◌, List, [], ◌∷◌, ◌++◌, length, drop, get_or, map, append_assoc, append-nil}
+use Rattle.std.proofs.Common.{◌≡◌, ◌∙◌, sym, ap, refl, ℕ, ◌+◌, ◌<◌, ◌≤◌, List, [], ◌∷◌, ◌++◌, length, drop, get_or, map, append_assoc, append-nil}
 use Rattle.std.specs.Prelude.{flat_map}
 use Rattle.std.proofs.lemmas.List.{drop_more}
 use Rattle.std.proofs.Math.ListN.{drop_of_length-le}
@@ -8,11 +8,6 @@ use Rattle.cj_printer.specs.Pieces.{Piece, piece_text, pieces_text}
 pub pieces-append : (a b : List Piece) → pieces_text (a ++ b) ≡ pieces_text a ++ pieces_text b
 pieces-append [] b = refl
 pieces-append (p ∷ ps) b = ap (λ t. piece_text p ++ t) (pieces-append ps b) ∙ sym (append_assoc (piece_text p) (pieces_text ps) (pieces_text b))
-
--- a text and two runs of pieces behind it
-pub joined : (old mid new : List ℕ) (a b : List Piece) → mid ≡ old ++ pieces_text a → new ≡ mid ++ pieces_text b → new ≡ old ++ pieces_text (a ++ b)
-joined old mid new a b first second =
-    second ∙ ap (λ t. t ++ pieces_text b) first ∙ append_assoc old (pieces_text a) (pieces_text b) ∙ ap (λ t. old ++ t) (sym (pieces-append a b))
 
 -- a turn of a loop that appends the pieces of each item
 pub turn : {X : Type 0} (g : X → List Piece) (before now all : List ℕ) (xs : List X) (i : ℕ) (x : X) → i < length xs → x ≡ get_or xs i x → before ++ pieces_text (flat_map g (drop i xs)) ≡ all → now ≡ before ++ pieces_text (g x) → now ++ pieces_text (flat_map g (drop (i + 1) xs)) ≡ all

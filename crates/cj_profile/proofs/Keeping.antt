@@ -1,19 +1,18 @@
 -- Each step keeps the rule.
-use Rattle.std.proofs.Common.{◌≡◌, ◌≢◌, ℕ, zero, suc, ◌+◌, ◌%◌, ◌^◌, ◌<◌, ◌≤◌, eqb, true, true≢false, List, [], ◌∷◌, ◌++◌, length, set, get_or, max, Option, Some, None, refl, sym, ap, ◌∙◌, subst, ⊎_elim, arith, length-set, get_or-set_other, get_or-set_same, replicate}
-use Rattle.std.proofs.lemmas.List.{length-replicate}
-use mathlib.Core.Option.{none, some, some-ne-none, some-injective}
+use Rattle.std.proofs.Common.{◌≡◌, ◌≢◌, ℕ, ◌+◌, ◌%◌, ◌^◌, ◌<◌, ◌≤◌, eqb, true, true≢false, List, [], ◌∷◌, ◌++◌, length, set, get_or, max, Option, Some, None, refl, sym, ap, ◌∙◌, subst, ⊎_elim, arith, length-set, get_or-set_other, get_or-set_same}
+use mathlib.Core.Option.{none, some}
 use mathlib.Core.Logic.{dite}
 use native.Mathlib.Decide.{ℕ_discrete}
 use lib.ListN.{get_elem?}
 use prog.Atomic.{either}
-use Rattle.atomic_table.specs.Table.{State, Me, step, keeps, stepped, Allows, Splits, Joins, opening}
+use Rattle.atomic_table.specs.Table.{State, Me, step, keeps, stepped, Allows, Splits, Joins}
 use Rattle.atomic_table.proofs.Lists.{at_set, at_snoc, set_again}
 use Rattle.cj_ir.specs.declared.language.FunId.{FunId}
 use Rattle.cj_ir.specs.declared.language.Program.{Program}
 use Rattle.cj_profile.specs.declared.layout.Word.TheVariants.{Asked}
 use Rattle.cj_profile.specs.declared.view.View.{View}
-use Rattle.cj_profile.specs.Words.{number, word_count}
-use Rattle.cj_profile.specs.Rule.{Ruled, fresh, given, spent_view, joined_view, Follows, loaded, stored, added, raised, exchanged}
+use Rattle.cj_profile.specs.Words.{number}
+use Rattle.cj_profile.specs.Rule.{Ruled, given, spent_view, joined_view, Follows, loaded, stored, added, raised, exchanged}
 
 -- no function's asked level stands there
 abbrev pub IsApart : Program → ℕ → Type 0
@@ -94,19 +93,3 @@ module _ {S : Type 0} where
         (λ (t : (j ≢ other) × (get_elem? (set s.views id (joined_view v w)) j ≡ some u)). views_set p s r id (joined_view v w) (r.views id v at) j u t.1)
         (at_set (set s.views id (joined_view v w)) other j spent_view u e);
   }
-
-zeros : (n i : ℕ) → ◌≡◌ {A = ℕ} (get_or (replicate {A = ℕ} n 0) i 0) 0
-zeros zero i = refl
-zeros (suc n) zero = refl
-zeros (suc n) (suc i) = zeros n i
-
-pub opens : (p : Program) (ws : List ℕ) → ws ≡ replicate {A = ℕ} (word_count p) 0 → Ruled {S = Unit {0}} p (opening ws [] (fresh p))
-opens p ws is = record {
-  sized = ap length is ∙ length-replicate (word_count p) 0;
-  asked = λ f lt. let z : get_or ws (number (Asked f)) 0 ≡ 0 = ap (λ (l : List ℕ). get_or l (number (Asked f)) 0) is ∙ zeros (word_count p) (number (Asked f)) in omega arith;
-  views = one;
-}
-  where
-    one : (j : ℕ) (v : View) → get_elem? (fresh p ∷ []) j ≡ some v → v.live ≡ true → v.program ≡ p
-    one zero v e l = ap (λ (y : View). y.program) (sym (some-injective _ _ e))
-    one (suc j) v e l = absurd (some-ne-none v (sym e))

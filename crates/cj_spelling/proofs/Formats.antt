@@ -5,6 +5,7 @@ use Rattle.std.specs.List.{flat_map}
 use Rattle.std.proofs.lemmas.List.{append-nil}
 use Rattle.std.proofs.lemmas.List.Elements.{All-cons, All-nil, All-tail, All-head}
 use Rattle.std.proofs.lemmas.Bool.{ltb-true, lt-ltb, leb-true, le-leb, eqb-true}
+use Rattle.std.proofs.lemmas.Option.{cond_some}
 use Rattle.cj_spelling.specs.Spelling.{counted}
 use Rattle.cj_spelling.specs.Formats.{Read, Reading, ◌>>=◌, made, only, two_at, three_at, four_at, each_at, counted_at, word_at, below_at, at_most_at}
 
@@ -45,14 +46,10 @@ made_from f (Some x) y rest e = record {
   read = ap (λ w. Some (x.0, w)) (rest_same (f x.0) y x.1 rest e);
 }
 
-passes : {X : Type 0} (test : Bool) (x y : X) → cond test (Some x) None ≡ Some y → (test ≡ true) × (x ≡ y)
-passes true x y e = (refl, some_same x y e)
-passes false x y e = cc
-
 pub only_from : {X : Type 0} (test : X → Bool) (r : Read X) (x : X) (rest : List ℕ) → only test r ≡ Some (x, rest) → (test x ≡ true) × (r ≡ Some (x, rest))
 only_from test None x rest e = cc
 only_from {X} test (Some y) x rest e =
-    let p = passes (test y.0) y (x, rest) e in
+    let p = cond_some (test y.0) y (x, rest) e in
     (subst (λ (z : X × List ℕ). test z.0 ≡ true) p.1 p.0, ap Some p.1)
 
 -- ---- words

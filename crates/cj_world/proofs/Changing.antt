@@ -115,6 +115,7 @@ claimed_room words next len few fits =
     ap (λ b. if b then TooLarge (capped len) else if nat_lt words (next + len) then Full next len else Published next) large
     ∙ ap (λ b. if b then Full next len else Published next) full)
 
+-- a spelling has words
 pub some_words : (code : Code) → 0 < words_in code
 unfolding words_in
 some_words code = omega arith

@@ -182,16 +182,16 @@ module _ (offset : ℕ) (code : Code) where
 
 -- ---- the versions of a cache
 
+pub zeros : (n k : ℕ) → get_or {A = ℕ} (replicate n 0) k 0 ≡ 0
+zeros zero k = refl
+zeros (suc n) zero = refl
+zeros (suc n) (suc k) = zeros n k
+
 pub first_versions : (P : Program) (entries : List (ℕ × Body)) (current : List ℕ) → entries ≡ [] → current ≡ replicate {A = ℕ} (length P.functions) 0 → AreVersions P entries current
 unfolding codes_in code_at
 first_versions P entries current none all =
     subst (λ (es : List (ℕ × Body)). AreVersions P es current) (sym none) (subst (λ (c : List ℕ). AreVersions P [] c) (sym all) first)
   where
-    zeros : (n k : ℕ) → get_or {A = ℕ} (replicate n 0) k 0 ≡ 0
-    zeros zero k = refl
-    zeros (suc n) zero = refl
-    zeros (suc n) (suc k) = zeros n k
-
     first : AreVersions P [] (replicate (length P.functions) 0)
     first = record {
       programs = All-nil (λ (entry : ℕ × Body). entry.1.program ≡ P);

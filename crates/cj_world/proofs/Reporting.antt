@@ -1,21 +1,18 @@
 -- The report of a run that has ended or has reached its limit.
-use Rattle.std.proofs.Common.{◌≡◌, refl, ap, subst, eq-eqb, arith, ℕ, List, length, Option, Some, None, inl, inr, if◌then◌else◌}
+use Rattle.std.proofs.Common.{◌≡◌, refl, subst, arith, ℕ, List, length, Option, Some, None, inl, inr}
 use Rattle.cj_ir.specs.declared.language.Program.{Program}
 use Rattle.cj_base.specs.declared.machine.End.{End}
 use Rattle.cj_base.specs.declared.machine.End.TheVariants.{TurnLimit}
 use Rattle.cj_base.specs.Run.{Begun, begun}
 use Rattle.cj_calls.specs.declared.report.Look.{Look}
 use Rattle.cj_engine.specs.Versions.{State, Codes}
-use Rattle.cj_engine.specs.VersionRuns.{if_used, report_of, report_at, version_report}
+use Rattle.cj_engine.specs.VersionRuns.{report_of, report_at, version_report}
 use Rattle.cj_engine.specs.Machines.{state_of}
 use Rattle.cj_engine.specs.Engines.{IsRun}
+use Rattle.cj_engine.proofs.Runs.{used_whole}
 use Rattle.cj_world.specs.declared.runs.Run as code
 use Rattle.cj_world.specs.Running.{progress_by, end_answered, IsAt, IsThrough, Fits}
 use Rattle.cj_world.proofs.Steps.{HasMade}
-
-used_whole : (looks : List Look) (end : End) (s : State) → s.entries ≡ length looks → if_used looks end s ≡ Some (report_of looks end s)
-unfolding if_used
-used_whole looks end s used = ap (λ b. if b then Some (report_of looks end s) else None) (eq-eqb s.entries (length looks) used)
 
 pub read_at : (looks : List Look) (o : Option End) (s : State) → s.entries ≡ length looks → report_at looks (progress_by o s) ≡ Some (report_of looks (end_answered o) s)
 unfolding progress_by end_answered report_at

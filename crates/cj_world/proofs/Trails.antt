@@ -18,6 +18,8 @@ use Rattle.cj_world.specs.Worlds.{Run, World, codes_in, offset_of, looks_of, beg
 use Rattle.cj_world.specs.Plays.{Happens, AllHappen, PlaysTo}
 use Rattle.cj_world.specs.Played.{NeverFall}
 use Rattle.cj_world.proofs.Gaining.{AreCurrent, looks_are_current, turns_gain, dropped}
+use Rattle.cj_world.proofs.Changing.{some_words}
+use Rattle.cj_world.proofs.Finding.{zeros}
 
 -- each look found what is current now, or something older
 abbrev AreBelow : List ℕ → List Look → Type 0
@@ -59,11 +61,6 @@ first_ordered P = record {
   below = All-nil (λ look. look.offset ≤ offset_of (first_world P).current look.function);
   claimed = λ f. let none : get_or {A = ℕ} (replicate (length P.functions) 0) f.0 0 ≡ 0 = zeros (length P.functions) f.0 in omega arith;
 }
-  where
-    zeros : (n k : ℕ) → get_or {A = ℕ} (replicate n 0) k 0 ≡ 0
-    zeros zero k = refl
-    zeros (suc n) zero = refl
-    zeros (suc n) (suc k) = zeros n k
 
 -- more looks at current versions
 with_looks : (w v : World) (more : List Look) → v.trail ≡ w.trail ++ more → v.current ≡ w.current → v.next ≡ w.next → AreCurrent w.current more → Ordered w → Ordered v
@@ -127,11 +124,6 @@ module _ (current : List ℕ) (at new : ℕ) (newer : (f : FunId) → offset_of 
   below_rises looks h =
       All-weaker (λ look. look.offset ≤ offset_of current look.function) (λ look. look.offset ≤ offset_of (slice_set current at new) look.function)
       (λ look b. let up = rises look.function in omega arith) looks h
-
--- a spelling has words
-some_words : (code : Code) → 0 < words_in code
-unfolding words_in
-some_words code = omega arith
 
 published_ordered : (code : Code) (w : World) → Ordered w → Ordered (published code (Published w.next) w)
 unfolding published
