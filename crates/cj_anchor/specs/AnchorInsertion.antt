@@ -41,7 +41,7 @@ anchored code label place backs =
       places = map (led_place (led_to label (fresh_label code))) code.places ++ anchor_place label place backs ∷ [];
     }
 
--- `made` is the code with a fresh Anchor before the label. There is exactly one.
+-- `made` is the code with a fresh Anchor before the label. There is no other.
 pub record IsAnchored (code : Code) (label : Label) (made : Code) : Type 0 where
   pub place : Place
   pub at : place_at code label ≡ Some place

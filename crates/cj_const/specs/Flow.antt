@@ -98,7 +98,7 @@ pub record IsConsistent (context : List Fact) (code : Code) (table : List Facts)
       place_at code label ≡ Some place → facts_at table label ≡ Known facts → Contains (successors place.instr) to →
       IsWithin (facts_at table to) (leaves (told_by facts) place.instr to)
 
--- The table is consistent, and every consistent one says no more at any label. There is exactly one.
+-- The table is consistent, and every consistent one says no more at any label. There is no other.
 pub record IsStrongest (context : List Fact) (code : Code) (table : List Facts) : Type 0 where
   pub consistent : IsConsistent context code table
   pub strongest : (other : List Facts) → IsConsistent context code other → (label : Label) →

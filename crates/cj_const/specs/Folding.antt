@@ -143,6 +143,6 @@ folded_places n (place ∷ places) (facts ∷ table) = folded_place n place fact
 unfoldable pub folded : Code → List Facts → Code
 folded code table = record code { places = folded_places code.regs code.places table }
 
--- `made` is the code folded over its strongest table. There is exactly one.
+-- `made` is the code folded over its strongest table. There is no other.
 abbrev pub IsFolded : List Fact → Code → Code → Type 0
 IsFolded context code made = (table : List Facts) × IsStrongest context code table × (made ≡ folded code table)

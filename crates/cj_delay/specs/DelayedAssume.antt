@@ -219,7 +219,7 @@ pub record IsDelayed (code : Code) (path : List Label) (guards : List Guard) (ma
   pub with_pair : AreWith last.backs (path_pair code path target number (length path - 1)) backs
   pub same : made ≡ delayed code places (on_path path (length path - 2)) (on_path path (length path - 1)) from (fresh_place (Assume guards (turns_back code path number) target (on_path path (length path - 1))) last backs)
 
--- `made` is the code after the pass: where a condition is against it, the code stays. There is exactly one.
+-- `made` is the code after the pass: where a condition is against it, the code stays. There is no other.
 abbrev pub IsAfterDelay : Program → Code → List Label → List Guard → Code → Type 0
 IsAfterDelay P code path guards made =
     ((delay_offence P code path guards ≡ None) × IsDelayed code path guards made)

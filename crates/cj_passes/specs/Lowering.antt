@@ -63,7 +63,7 @@ lowered code kept =
       places = map (led_place (led code kept)) (kept_of kept code.places);
     }
 
--- `made` is the lowering of the code. There is exactly one.
+-- `made` is the lowering of the code. There is no other.
 pub record IsLowered (code made : Code) : Type 0 where
   pub kept : List Bool
   pub are_kept : AreKept code kept

@@ -62,7 +62,7 @@ pub data ArePassed (P : Program) : ℕ → Code → List Pass → Code → List 
       ArePassed P number code (pass ∷ passes) made (numbered number skipped ++ skips)
 
 -- The passes in their order, each on what the one before made, the first on the base body of the function, make a draft;
--- its lowering is `made`. There is exactly one, with one list of what is skipped.
+-- its lowering is `made`. There is no other, and no other list of what is skipped.
 pub record IsPipeline (P : Program) (f : FunId) (passes : List Pass) (made : Code) (skips : List (ℕ × Skipped)) : Type 0 where
   pub draft : Code
   pub passed : ArePassed P 0 (base_code P f) passes draft skips
