@@ -1,9 +1,9 @@
 -- The code by hand is sound.
-use Rattle.std.proofs.Common.{◌≡◌, ℕ, zero, suc, ◌<◌, ◌≤◌, List, [], ◌∷◌, length, get_or, Option, Some, None, refl, sym, ap, ◌∙◌, subst, arith, lit<, le_refl}
+use Rattle.std.proofs.Common.{◌≡◌, ℕ, zero, suc, ◌<◌, ◌≤◌, List, [], ◌∷◌, length, Option, Some, None, refl, sym, ap, ◌∙◌, subst, arith, lit<, le_refl}
 use Rattle.std.specs.Prelude.{◌≢◌, ℤ, pos, negsuc, Contains, IsSomeAnd, slice_get, slice_index_or}
 use Rattle.std.specs.Option.{option_map}
 use Rattle.std.proofs.lemmas.List.Elements.{All-nil, All-cons}
-use Rattle.std.proofs.lemmas.Option.{none-some, same_Some, slice_get-get_or}
+use Rattle.std.proofs.lemmas.Option.{none-some, same_Some}
 use Rattle.cj_ir.specs.WellFormed.{Takes}
 use Rattle.cj_ir.specs.Program.{instr_at, reg_count}
 use Rattle.cj_ir.specs.Values.{register, IsOperandWithin}
@@ -42,10 +42,6 @@ use Rattle.cj_const.specs.Behind.{reg, label, failing, six, swap, guards, place,
 pub store_fails : (value : Operand) (next : Label) (regs m : List ℤ) → version_effect (Store (operand.Const (negsuc 0)) value next) regs m ≡ Plain (Faults (BadAddress (negsuc 0)))
 unfolding version_effect store_effect with_value cell
 store_fails value next regs m = refl
-
--- an item that is read in a list that equals this one
-pub get_read : {X : Type 0} (xs ys : List X) (i : ℕ) (x : X) → ys ≡ xs → i < length xs → x ≡ get_or ys i x → slice_get xs i ≡ Some x
-get_read xs ys i x e within read = slice_get-get_or xs i x within ∙ ap (λ zs. Some (get_or zs i x)) (sym e) ∙ ap Some (sym read)
 
 pub regs_of_base : (P : Program) (f : FunId) → reg_count P f ≡ (base_code P f).regs
 unfolding base_code

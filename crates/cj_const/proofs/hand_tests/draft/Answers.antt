@@ -1,6 +1,6 @@
 use Rattle.std.proofs.Common.{◌≡◌, ◌<◌, [], ◌∷◌, ◌++◌, length, Some, sym, ap, ◌∙◌, subst, arith}
 use Rattle.std.specs.Prelude.{List, slice_get}
-use Rattle.std.proofs.lemmas.Option.{slice_get_within}
+use Rattle.std.proofs.lemmas.Option.{slice_get_within, slice_get_read}
 use Rattle.cj_ir.specs.declared.language.FunId.{FunId}
 use Rattle.cj_ir.specs.Program.{reg_count}
 use Rattle.cj_draft.specs.declared.facts.Fact.{Fact}
@@ -10,7 +10,7 @@ use Rattle.cj_draft.specs.BaseBody.{base_code}
 use Rattle.cj_draft.specs.Bodies.{Body}
 use Rattle.cj_draft.specs.WellNamed.{IsContextOf}
 use Rattle.cj_draft.specs.Sound.{Sound}
-use Rattle.cj_const.proofs.BehindSound.{behind_sound, first_fits, get_read, regs_of_base}
+use Rattle.cj_const.proofs.BehindSound.{behind_sound, first_fits, regs_of_base}
 use Rattle.cj_const.proofs.hand_tests.draft.Goals as goal
 
 pub adopt_in-requires-clause-context : goal.adopt_in-requires-clause-context
@@ -32,7 +32,10 @@ adopt_in-requires-clause-sound c c' =
     let looked = c'.in-Some.ensures.lookup in
     let read : c'.items-2.result.now ≡ code.places = c'.items-2.ensures in
     let within : 0 < length code.places = omega (arith, looked.3.0, ap (λ (ps : List Place). length ps) read) in
-    let at : slice_get (base_code P f).places 0 ≡ Some first = ap (λ (k : Code). slice_get k.places 0) (sym is) ∙ get_read code.places c'.items-2.result.now 0 first read within looked.1 in
+    let at : slice_get (base_code P f).places 0 ≡ Some first =
+    ap (λ (k : Code). slice_get k.places 0) (sym is)
+    ∙ ap (λ (ps : List Place). slice_get ps 0) (sym read)
+    ∙ slice_get_read c'.items-2.result.now (length code.places) 0 first (ap (λ (ps : List Place). length ps) (sym read)) within looked.1 in
     let two : reg_count P f ≡ 2 = regs_of_base P f ∙ sym (ap (λ (k : Code). k.regs) is) ∙ c'.is_store.ensures.registers c'.if-not-is_store.false in
     let inside = slice_get_within P.functions 0 c'.function-main.result.now c'.function-main.ensures.found in
     let sound = c'.base_body_is_sound.ensures P c'.push.new.self f c'.program.ensures.well_formed inside in
