@@ -250,15 +250,10 @@ rebuilt_seen values new_values top w waiting new_waiting s frame frames is p =
 pub cut_back : {A : Type 0} (old new : List A) (n : ℕ) → Extends old new → length old ≡ n → take n new ≡ old
 cut_back old new n p e = rw p.is (take_at old p.rest n e)
 
-pub lost_seen : (values new_values : List ℤ) (top : Window) (ws : List Window) (s : Stacked)
-    → stacked_in values top ws ≡ s → AreTiled values (top ∷ ws) → Extends (take top.start values) new_values
-    → stacked_in (take top.start new_values) top ws ≡ record s { top = with_regs s.top [] }
-unfolding stacked_in
-lost_seen values new_values top ws s is t p =
-    let size = length-take-le top.start values t.0 in
-    rw
-    (cut_back (take top.start values) new_values top.start p size, take_all top.start (take top.start values) (omega arith), drop_all top.start (take top.start values) (omega arith), with_regs_is top.position (drop top.start values) [])
-    (ap (λ (x : Stacked). record x { top = with_regs x.top [] }) is)
+-- what was written behind a list is cut off, and what had stood there is put back
+pub put_back : (values written : List ℤ) (start : ℕ) → start ≤ length values → Extends (take start values) written → take start written ++ drop start values ≡ values
+put_back values written start within p =
+    ap (λ (xs : List ℤ). xs ++ drop start values) (cut_back (take start values) written start p (length-take-le start values within)) ∙ take-append-drop start values
 
 -- The first activation.
 

@@ -162,14 +162,14 @@ impl Activations {
     }
 
     /// Base frames stand in place of the top: a frame that runs, and those that wait for it, innermost first.
-    ///
-    /// Where there is no memory the top has lost its registers, and those that wait are as they were.
     pub fn rebuild(&mut self, top: &Frame, waiting: &Waitings) -> Result<(), NoMemory>
         ensures ok { OnOk result (self.new ≡ rebuilt self.old top.now waiting.now) }
-        ensures no_memory { OnErr result (self.new ≡ record self.old { top = with_regs self.old.top [] }) }
+        ensures no_memory { OnErr result (self.new ≡ self.old) }
     {
         let depth = self.waiting.len();
         let start = self.top.start;
+        let mut registers = Vec::new(*self.values.allocator());
+        registers.extend_from_slice(&self.values[start..])?;
         self.values.truncate(start);
         match write_frames(&mut self.values, &mut self.waiting, top, waiting) {
             Ok(window) => {
@@ -179,6 +179,8 @@ impl Activations {
             Err(error) => {
                 self.waiting.truncate(depth);
                 self.values.truncate(start);
+                let put_back = self.values.extend_from_slice(registers.as_slice());
+                prove!(put_back.is_ok());
                 Err(error)
             }
         }

@@ -1,6 +1,6 @@
 //! Windows: which part of a list of values holds an activation's registers.
 
-ghost use Rattle.std.specs.Prelude.{◌≡◌, ◌<◌, [], ◌∷◌, ◌++◌, length, slice_set, ℤ, List, IfOk, OnErr, OnOk};
+ghost use Rattle.std.specs.Prelude.{◌≡◌, ◌<◌, ◌≤◌, vec_capacity, [], ◌∷◌, ◌++◌, length, slice_set, ℤ, List, IfOk, OnErr, OnOk};
 ghost use Rattle.cj_base.specs.Machine.{entry_regs};
 ghost use Rattle.cj_activations.specs.Changes.{waits_of};
 ghost use Rattle.cj_activations.specs.Windows.{paused_by, moved_to, waiting_window, Extends, Pushes, Writes};
@@ -143,6 +143,7 @@ fn push_waiting(
     ensures pushed { OnOk result (Pushes (frame.now ∷ []) windows.old.items windows.new.items values.old.items values.new.items) }
     ensures windows { Extends windows.old.items windows.new.items }
     ensures values { Extends values.old.items values.new.items }
+    ensures capacity { vec_capacity values.old ≤ vec_capacity values.new }
 {
     let start = values.len();
     values.extend_from_slice(frame.regs.items())?;
@@ -169,6 +170,7 @@ pub(crate) fn write_frames(
         Writes top.now waiting.now window windows.old.items windows.new.items values.old.items values.new.items) }
     ensures windows { Extends windows.old.items windows.new.items }
     ensures values { Extends values.old.items values.new.items }
+    ensures capacity { vec_capacity values.old ≤ vec_capacity values.new }
 {
     let frames = waiting.items();
     for place in (0..frames.len()).rev() {

@@ -1,4 +1,4 @@
--- What is used of `Same`, and no more: five laws.
+-- What is used of `Same`, and no more: six laws.
 use Rattle.std.proofs.Common.{◌≡◌, ◌∙◌, ap, subst, refl, List, ℤ}
 use Rattle.std.specs.Prelude.{⊤}
 use Rattle.cj_ir.specs.Program.{instr_at}
@@ -6,6 +6,7 @@ use Rattle.cj_ir.specs.declared.language.Program.{Program}
 use Rattle.cj_base.specs.declared.machine.Waiting.{Waiting}
 use Rattle.cj_base.specs.Machine.{Stack, over, Outcome, Goes, Ends, Stuck, base_turn}
 use Rattle.cj_base.specs.Same.{Same}
+use Rattle.cj_base.specs.Fits.{StackFits}
 
 pub same_refl : (P : Program) (a : Stack) → Same P a a
 unfolding Same
@@ -24,6 +25,11 @@ same_over P a b below p = ap (λ s. over s below) p
 pub same_instr : (P : Program) (a b : Stack) → Same P a b → instr_at P a.top.function a.top.label ≡ instr_at P b.top.function b.top.label
 unfolding Same
 same_instr P a b p = ap (λ s. instr_at P s.top.function s.top.label) p
+
+-- where one of two stacks that are the same fits a program, so does the other
+pub same_fits : (P : Program) (a b : Stack) → Same P a b → StackFits P a → StackFits P b
+unfolding Same
+same_fits P a b same fits = subst (StackFits P) same fits
 
 -- two turns end alike, or print alike and go on from the same stack with the same memory
 abbrev pub SameOutcome : Program → Outcome → Outcome → Type 0

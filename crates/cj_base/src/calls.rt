@@ -7,9 +7,9 @@ ghost use Rattle.cj_base.specs.Fits.{Fits};
 ghost use Rattle.cj_base.specs.Run.{begun, start_of};
 ghost use Rattle.cj_base.specs.Whole.{IsOutcomeOf, IsWhole};
 
-use crate::entry::{entry_frame, push_zeros};
+use crate::entry::entry_frame;
 use crate::machine::{Config, End, Stack, Turned};
-use cj_ir::{Checked, Duplicate, NoMemory, ScriptCall, Values};
+use cj_ir::{Checked, Duplicate, NoMemory, ScriptCall, Values, zeros};
 use std::alloc::Global;
 
 impl Config {
@@ -22,8 +22,7 @@ impl Config {
         ensures fits { IfOk result (λ config. Fits checked.now (config_of config)) }
     {
         let top = entry_frame(checked.program(), call.function, call.args.copy()?)?;
-        let mut memory = Values::new(alloc);
-        push_zeros(&mut memory, call.cells as usize)?;
+        let memory = zeros(alloc, call.cells as usize)?;
         Ok(Config {
             top,
             waiting: Stack::new(alloc),

@@ -260,6 +260,7 @@ impl Config {
 
 /// The value in the cell of an address, if there is one.
 #[tactic(auto, unfolding(crate::specs::Machine::cell))]
+#[inline]
 pub fn cell(memory: &[i64], address: i64) -> Option<i64>
     ensures { result ≡ cell memory.now address }
 {
@@ -271,6 +272,7 @@ pub fn cell(memory: &[i64], address: i64) -> Option<i64>
 
 /// Sets the cell of an address. False, and no change: there is none.
 #[tactic(auto, unfolding(crate::specs::Machine::cell, crate::specs::Machine::with_cell))]
+#[inline]
 pub fn set_cell(memory: &mut Values, address: i64, value: i64) -> bool
     ensures set { result ≡ true → (memory.new ≡ with_cell memory.old address value) × IsSome (cell memory.old address) }
     ensures none { result ≡ false → (memory.new ≡ memory.old) × (cell memory.old address ≡ None) }

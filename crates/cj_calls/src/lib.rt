@@ -5,4 +5,7 @@ pub mod report;
 pub mod text;
 
 pub use report::{Look, Looks, Note, Notes, Report, Reports};
-pub use text::text_of;
+pub use text::{block_of, text_of};
+
+#[cfg(test)]
+mod tests;

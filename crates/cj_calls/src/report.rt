@@ -1,7 +1,7 @@
 //! What a call's run is answered with.
 
 use cj_base::{End, Frame, Waitings};
-use cj_ir::{FunId, Sequence, Values};
+use cj_ir::{Duplicate, FunId, NoMemory, Sequence, Values};
 
 /// A lookup of a function when it is entered: the offset of the version that was found, 0 for the base body.
 #[derive(Clone, Copy, Debug, PartialEq, Eq)]
@@ -42,4 +42,10 @@ pub struct Report {
     pub notes: Notes,
     /// All lookups, in order.
     pub looks: Looks,
+}
+
+impl Duplicate for Look {
+    fn copy(&self) -> Result<Look, NoMemory> {
+        Ok(*self)
+    }
 }

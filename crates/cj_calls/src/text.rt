@@ -29,6 +29,21 @@ pub fn text_of(
     Ok(text)
 }
 
+/// The block of one report, which is the one of that number: the lines that `text_of` writes for it.
+pub fn block_of(
+    alloc: Global,
+    checked: &Checked,
+    number: usize,
+    report: &Report,
+    stats: bool,
+) -> Result<Vec<u8>, NoMemory>
+    ensures { IfOk result (λ text. text.items ≡ report_text checked.now stats number report.now) }
+{
+    let mut text = Vec::new(alloc);
+    push_report(&mut text, checked.program(), number, report, stats)?;
+    Ok(text)
+}
+
 #[tactic(auto, unfolding(crate::specs::Output::report_text))]
 fn push_report(
     text: &mut Vec<u8>,

@@ -9,6 +9,7 @@ ghost use Rattle.cj_codec.specs.Answers.{left, Found, Gives};
 use crate::items::read_each;
 use crate::reader::{Limits, ReadError, WordReader};
 use cj_draft::Code;
+use cj_draft::limits::{MAX_CODE_LABELS, MAX_CODE_REGS};
 use cj_ir::{FunId, Label, NoMemory};
 use cj_spelling::MAX_WORDS;
 use std::alloc::Global;
@@ -45,9 +46,9 @@ fn read_code(alloc: Global, words: &mut WordReader<'_>) -> Result<Code, ReadErro
     ensures { Gives result (left words.new) (code_at (left words.old)) }
 {
     let function = words.function()?;
-    let regs = words.at_most(128)?;
+    let regs = words.at_most(MAX_CODE_REGS)?;
     let entry = words.next()?;
-    let labels = words.at_most(512)?;
+    let labels = words.at_most(MAX_CODE_LABELS)?;
     read_places(alloc, words, function, regs, entry, labels)
 }
 

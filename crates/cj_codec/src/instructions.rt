@@ -9,8 +9,10 @@ use crate::items::{Item, read_few};
 use crate::operands::{read_expr, read_operand};
 use crate::points::read_point;
 use crate::reader::{Limits, ReadError, WordReader};
+use cj_draft::limits::{MAX_BACK, MAX_CODE_REGS, MAX_GUARDS};
 use cj_draft::{Pair, Pairs, VInstr};
 use cj_ir::Reg;
+use cj_ir::limits::MAX_PARAMS;
 use std::alloc::Global;
 
 impl Item for Pair {
@@ -53,7 +55,7 @@ fn are_apart(pairs: &[Pair]) -> bool
 fn read_pairs(alloc: Global, words: &mut WordReader<'_>, limits: Limits) -> Result<Pairs, ReadError>
     ensures { Gives result (left words.new) (pairs_at limits (left words.old)) }
 {
-    let pairs: Pairs = read_few(alloc, words, limits, 128)?;
+    let pairs: Pairs = read_few(alloc, words, limits, MAX_CODE_REGS)?;
     if are_apart(pairs.items()) {
         Ok(pairs)
     } else {
@@ -102,7 +104,7 @@ fn read_call(alloc: Global, words: &mut WordReader<'_>, limits: Limits) -> Resul
 {
     let dest = words.reg(limits)?;
     let function = words.function()?;
-    let args = read_few(alloc, words, limits, 8)?;
+    let args = read_few(alloc, words, limits, MAX_PARAMS)?;
     let next = words.label(limits)?;
     Ok(VInstr::Call {
         dest,
@@ -170,8 +172,8 @@ fn read_assume(
 ) -> Result<VInstr, ReadError>
     ensures { Gives result (left words.new) (assume_at limits (left words.old)) }
 {
-    let guards = read_few(alloc, words, limits, 8)?;
-    let back = words.at_most(4)?;
+    let guards = read_few(alloc, words, limits, MAX_GUARDS)?;
+    let back = words.at_most(MAX_BACK)?;
     let target = read_point(alloc, words, limits)?;
     let next = words.label(limits)?;
     Ok(VInstr::Assume {

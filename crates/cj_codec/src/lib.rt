@@ -10,6 +10,7 @@ pub mod places;
 pub mod points;
 pub mod reader;
 
+pub use cj_spelling::encode;
 pub use codes::decode;
 
 #[cfg(test)]

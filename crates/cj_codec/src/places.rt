@@ -9,6 +9,7 @@ use crate::instructions::read_instr;
 use crate::items::{Item, read_counted};
 use crate::points::read_point;
 use crate::reader::{Limits, ReadError, WordReader};
+use cj_draft::limits::MAX_BACK;
 use cj_draft::{Back, Fact, FactList, Facts, Place};
 use std::alloc::Global;
 
@@ -77,7 +78,7 @@ impl Item for Back {
 
     #[tactic(auto, unfolding(crate::specs::Reading::back_at))]
     fn read(alloc: Global, words: &mut WordReader<'_>, limits: Limits) -> Result<Back, ReadError> {
-        let turns = words.at_most(4)?;
+        let turns = words.at_most(MAX_BACK)?;
         let point = read_point(alloc, words, limits)?;
         Ok(Back { turns, point })
     }

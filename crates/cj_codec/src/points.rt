@@ -6,7 +6,9 @@ ghost use Rattle.cj_codec.specs.Answers.{left, Gives};
 
 use crate::items::{Item, read_few};
 use crate::reader::{Limits, ReadError, WordReader};
+use cj_draft::limits::MAX_FRAMES;
 use cj_draft::{Point, PointFrame};
+use cj_ir::limits::MAX_REGS;
 use std::alloc::Global;
 
 impl Item for PointFrame {
@@ -21,7 +23,7 @@ impl Item for PointFrame {
         let function = words.function()?;
         let label = words.base_label()?;
         let dest = words.base_reg()?;
-        let map = read_few(alloc, words, limits, 32)?;
+        let map = read_few(alloc, words, limits, MAX_REGS as u32)?;
         Ok(PointFrame {
             function,
             label,
@@ -50,7 +52,7 @@ pub fn read_point(
 ) -> Result<Point, ReadError>
     ensures { Gives result (left words.new) (point_at limits (left words.old)) }
 {
-    let frames = read_few(alloc, words, limits, 4)?;
+    let frames = read_few(alloc, words, limits, MAX_FRAMES)?;
     if has_plain_top(frames.items()) {
         Ok(Point { frames })
     } else {

@@ -6,13 +6,17 @@ ghost use Rattle.cj_spelling.specs.Formats.{word_at, below_at, at_most_at};
 ghost use Rattle.cj_codec.specs.Reading.{value_at, function_at, label_at, base_label_at, reg_at, base_reg_at};
 ghost use Rattle.cj_codec.specs.Answers.{left, Gives};
 
+use cj_ir::limits::{MAX_FUNCTIONS, MAX_LABELS, MAX_REGS};
 use cj_ir::{FunId, Label, NoMemory, Reg};
+use thiserror::Error;
 
 /// Why nothing was read.
-#[derive(Clone, Copy, Debug, PartialEq, Eq)]
+#[derive(Clone, Copy, Debug, PartialEq, Eq, Error)]
 pub enum ReadError {
     /// The words begin with no spelling of what was asked for.
+    #[error("the words spell nothing that was asked for")]
     NoSpelling,
+    #[error("there was no memory")]
     NoMemory,
 }
 
@@ -99,7 +103,7 @@ impl<'a> WordReader<'a> {
         ensures word { Gives result (left self.new) (function_at (left self.old)) }
         ensures err { IfErr result (λ error. error ≡ read_error.NoSpelling) }
     {
-        let number = self.below(64)?;
+        let number = self.below(MAX_FUNCTIONS as u32)?;
         Ok(FunId(number))
     }
 
@@ -119,7 +123,7 @@ impl<'a> WordReader<'a> {
         ensures word { Gives result (left self.new) (base_label_at (left self.old)) }
         ensures err { IfErr result (λ error. error ≡ read_error.NoSpelling) }
     {
-        let number = self.below(256)?;
+        let number = self.below(MAX_LABELS as u32)?;
         Ok(Label(number))
     }
 
@@ -139,7 +143,7 @@ impl<'a> WordReader<'a> {
         ensures word { Gives result (left self.new) (base_reg_at (left self.old)) }
         ensures err { IfErr result (λ error. error ≡ read_error.NoSpelling) }
     {
-        let number = self.below(32)?;
+        let number = self.below(MAX_REGS as u32)?;
         Ok(Reg(number))
     }
 }

@@ -64,7 +64,7 @@ reached-other rows to x row h = ap (option_map known) (get_or-set_other rows to.
 -- ---- an edge of the label that is followed
 
 -- what arrives along an edge from a label says no less than a consistent table does
-arrives-above : (context : List Fact) (code : Code) (table : List Facts) (label to : Label) (p : Place) (k : Knowledge) → IsConsistent context code table → place_at code label ≡ Some p → Contains (successors p.instr) to → IsWithin (facts_at table label) (Some k) → IsWithin (facts_at table to) (leaves k p.instr to)
+pub arrives-above : (context : List Fact) (code : Code) (table : List Facts) (label to : Label) (p : Place) (k : Knowledge) → IsConsistent context code table → place_at code label ≡ Some p → Contains (successors p.instr) to → IsWithin (facts_at table label) (Some k) → IsWithin (facts_at table to) (leaves k p.instr to)
 arrives-above context code table label to p k consistent at edge within = by_facts (facts_at table label) refl within
   where
     by_facts : (facts : Facts) → facts_at table label ≡ facts → IsWithin facts (Some k) → IsWithin (facts_at table to) (leaves k p.instr to)

@@ -12,7 +12,7 @@ use cj_ir::{NoMemory, Reg, Sequence};
 use std::alloc::Global;
 
 /// For each label of a code what is known there. `None`: no run is known to come to the label.
-pub(crate) type Rows = Sequence<Option<Row>>;
+pub type Rows = Sequence<Option<Row>>;
 
 #[tactic(auto, unfolding(crate::specs::Folding::fact_if))]
 fn push_fact(facts: &mut FactList, reg: u32, value: Option<i64>) -> Result<(), NoMemory>
@@ -51,11 +51,11 @@ fn facts_in(row: &Option<Row>, regs: u32) -> Result<Facts, NoMemory>
 }
 
 /// The facts of each label.
-pub(crate) fn table_of(alloc: Global, rows: &Rows, regs: u32) -> Result<FactTable, NoMemory>
+pub fn table_of(alloc: Global, rows: &[Option<Row>], regs: u32) -> Result<FactTable, NoMemory>
     ensures { IfOk result (λ table. table ≡ map (facts_in regs) rows.now) }
 {
     let mut table = FactTable::new(alloc);
-    for row in rows.items() {
+    for row in rows {
         table.push(facts_in(row, regs)?)?;
     }
     Ok(table)

@@ -84,7 +84,7 @@ fn with_guard(row: &mut Row, guard: &Guard) -> bool
 }
 
 /// After guards that hold.
-fn with_guards(row: &Row, guards: &[Guard]) -> Result<Option<Row>, NoMemory>
+pub fn with_guards(row: &Row, guards: &[Guard]) -> Result<Option<Row>, NoMemory>
     requires { All (IsGuardWithin (length row.now)) guards.now }
     ensures leaves { IfOk result (λ made. option_map known made ≡ with_guards guards.now (Some (known row.now))) }
     ensures width { IfOk result (λ made. IfSome made (λ new. length new ≡ length row.now)) }
@@ -100,7 +100,7 @@ fn with_guards(row: &Row, guards: &[Guard]) -> Result<Option<Row>, NoMemory>
 
 /// What leaves the instruction along its edge to a label. `None`: nothing arrives.
 #[tactic(auto, unfolding(crate::specs::Flow::leaves), using(crate::proofs::Rows::known_after))]
-pub(crate) fn leaves(row: &Row, instr: &VInstr, to: Label) -> Result<Option<Row>, NoMemory>
+pub fn leaves(row: &Row, instr: &VInstr, to: Label) -> Result<Option<Row>, NoMemory>
     requires { WritesWithin (length row.now) instr.now }
     ensures leaves { IfOk result (λ made. option_map known made ≡ leaves (known row.now) instr.now to) }
     ensures width { IfOk result (λ made. IfSome made (λ new. length new ≡ length row.now)) }
@@ -147,7 +147,7 @@ pub(crate) fn leaves(row: &Row, instr: &VInstr, to: Label) -> Result<Option<Row>
 
 /// The label of a conditional branch.
 #[tactic(auto, unfolding(cj_base::specs::Machine::branch))]
-pub(crate) fn branch(test: i64, then_to: Label, else_to: Label) -> Label
+pub fn branch(test: i64, then_to: Label, else_to: Label) -> Label
     ensures { result ≡ branch test then_to else_to }
 {
     if test == 0 { else_to } else { then_to }

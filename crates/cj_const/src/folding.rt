@@ -2,6 +2,7 @@
 
 ghost use Rattle.std.specs.Prelude.{◌≡◌, All, IfOk, length};
 ghost use Rattle.cj_draft.specs.WellNamed.{HasFineFacts};
+ghost use Rattle.cj_const.specs.Flow.{IsStrongest};
 ghost use Rattle.cj_const.specs.Folding.{folded_by, folded_place, folded_places, folded, IsFolded};
 
 use crate::facts::together;
@@ -25,8 +26,19 @@ pub fn fold<'p>(draft: Draft<'p>) -> Result<Draft<'p>, NoMemory>
 {
     let alloc = draft.code().places.allocator();
     let table = strongest(alloc, &draft)?;
+    let made = fold_over(draft, table.items())?;
+    Ok(made)
+}
+
+/// The draft folded over its strongest facts, which are those of this table, as `fold` does it.
+pub fn fold_over<'p>(draft: Draft<'p>, table: &[Facts]) -> Result<Draft<'p>, NoMemory>
+    requires { IsStrongest draft.context draft.code table.now }
+    ensures program { IfOk result (λ made. made.program ≡ draft.entry.program) }
+    ensures context { IfOk result (λ made. made.context ≡ draft.entry.context) }
+    ensures code { IfOk result (λ made. IsFolded draft.entry.context draft.entry.code made.code) }
+{
     let (checked, context, code) = draft.into_parts();
-    let code = folded(code, table.items())?;
+    let code = folded(code, table)?;
     Ok(Draft::adopt_in(checked, context, code))
 }
 

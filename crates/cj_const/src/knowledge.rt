@@ -8,11 +8,11 @@ use cj_ir::{Expr, NoMemory, Operand, Reg, Sequence, eval};
 use std::alloc::Global;
 
 /// For each register of a code its value, where it is known.
-pub(crate) type Row = Sequence<Option<i64>>;
+pub type Row = Sequence<Option<i64>>;
 
 /// What is known of an expression's value.
 #[derive(Clone, Copy)]
-pub(crate) enum Outcome {
+pub enum Outcome {
     /// An operand is not known.
     Unknown,
     Value(i64),
@@ -33,7 +33,7 @@ fn told_by(facts: &[Fact], reg: Reg) -> Option<i64>
 }
 
 /// The row of a code with that many registers, of which all facts speak.
-pub(crate) fn row_of(alloc: Global, facts: &[Fact], regs: u32) -> Result<Row, NoMemory>
+pub fn row_of(alloc: Global, facts: &[Fact], regs: u32) -> Result<Row, NoMemory>
     requires { All (λ fact. fact.reg.0 < regs) facts.now }
     ensures told { IfOk result (λ row. known row ≡ told_by facts.now) }
     ensures width { IfOk result (λ row. length row ≡ regs) }
@@ -67,7 +67,7 @@ pub(crate) fn copied(row: &Row) -> Result<Row, NoMemory>
 
 /// What the row knows of a register.
 #[tactic(auto, unfolding(crate::specs::Knowledge::known))]
-pub(crate) fn known(row: &[Option<i64>], reg: Reg) -> Option<i64>
+pub fn known(row: &[Option<i64>], reg: Reg) -> Option<i64>
     ensures { result ≡ known row.now reg.0 }
 {
     match row.get(reg.0 as usize) {
@@ -78,7 +78,7 @@ pub(crate) fn known(row: &[Option<i64>], reg: Reg) -> Option<i64>
 
 /// The operand's value, where the row knows it.
 #[tactic(auto, unfolding(crate::specs::Knowledge::known_value))]
-pub(crate) fn known_value(row: &[Option<i64>], operand: &Operand) -> Option<i64>
+pub fn known_value(row: &[Option<i64>], operand: &Operand) -> Option<i64>
     ensures { result ≡ known_value (known row.now) operand.now }
 {
     match *operand {
@@ -100,7 +100,7 @@ pub(crate) fn folded_operand(row: &[Option<i64>], operand: &Operand) -> Operand
 
 /// The expression with constants in the place of operands whose values are known.
 #[tactic(auto, unfolding(cj_draft::specs::Operands::with_operands))]
-pub(crate) fn folded_operands(row: &[Option<i64>], expr: &Expr) -> Expr
+pub fn folded_operands(row: &[Option<i64>], expr: &Expr) -> Expr
     ensures { result ≡ folded_operands (known row.now) expr.now }
 {
     let folded = |operand: &Operand| folded_operand(row, operand);
@@ -146,7 +146,7 @@ fn are_constants(expr: &Expr) -> bool
 
 /// What is known of the expression's value.
 #[tactic(auto, unfolding(crate::specs::Knowledge::evaluated, crate::specs::Knowledge::outcome_of))]
-pub(crate) fn evaluated(expr: &Expr) -> Outcome
+pub fn evaluated(expr: &Expr) -> Outcome
     ensures { result ≡ evaluated expr.now }
 {
     if !are_constants(expr) {

@@ -9,7 +9,7 @@ pub mod knowledge;
 pub mod laws;
 pub mod search;
 
-pub use folding::fold;
+pub use folding::{fold, fold_over};
 pub use search::strongest;
 
 #[cfg(test)]

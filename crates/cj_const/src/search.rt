@@ -16,7 +16,7 @@ use std::alloc::Global;
 
 /// Whether a slot tells nothing, or what the other tells.
 #[tactic(auto, unfolding(crate::specs::Search::agrees))]
-fn agrees(slot: Option<i64>, other: Option<i64>) -> bool
+pub fn agrees(slot: Option<i64>, other: Option<i64>) -> bool
     ensures { result ≡ agrees slot other }
 {
     match slot {
@@ -194,6 +194,6 @@ pub fn strongest(alloc: Global, draft: &Draft<'_>) -> Result<FactTable, NoMemory
 {
     let mut search = Search::begin(alloc, draft)?;
     while search.step(draft)? {}
-    let table = table_of(alloc, &search.rows, draft.code().regs)?;
+    let table = table_of(alloc, search.rows.items(), draft.code().regs)?;
     Ok(table)
 }

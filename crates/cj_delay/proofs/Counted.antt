@@ -11,7 +11,7 @@ use Rattle.cj_draft.specs.declared.instructions.VInstr.{VInstr}
 use Rattle.cj_draft.specs.declared.instructions.VInstr.TheVariants.{Nop, Op, Move, Cond, Call, Return, Print, Load, Store, Fail, Assume, Anchor}
 use Rattle.cj_draft.specs.declared.code.Place.{Place}
 use Rattle.cj_draft.specs.declared.code.Code.{Code}
-use Rattle.cj_links.specs.EdgeTable.{EdgeTable, label_of, list_of, IsBetween, edges_into, given}
+use Rattle.cj_links.specs.EdgeTable.{EdgeTable, label_of, list_of, IsInto, edges_into, given}
 use Rattle.std.proofs.lemmas.List.FromFn.{get_or-map-range_with_len}
 use Rattle.cj_draft.specs.Edges.{successors}
 use Rattle.cj_draft.proofs.Lists.{All-left, All-right}
@@ -44,21 +44,21 @@ few_edges n (p ∷ places) =
     let own = length-map (successors p.instr) edge_to in
     omega (arith, here, own, few_successors p.instr, few_edges (suc n) places)
 
--- ---- between labels
+-- ---- edges into labels
 
-from_between : (m n : ℕ) (nexts : List Label) → n < m → All (λ (next : Label). next.0 < m) nexts → All (IsBetween m) (map (λ (next : Label). (label_of n, next)) nexts)
-from_between m n [] within h = All-nil (IsBetween m)
-from_between m n (x ∷ nexts) within h =
-    All-cons (IsBetween m) (label_of n, x) (map (λ (next : Label). (label_of n, next)) nexts) (within, All-head (λ (next : Label). next.0 < m) x nexts h)
-    (from_between m n nexts within (All-tail (λ (next : Label). next.0 < m) x nexts h))
+from_into : (m n : ℕ) (nexts : List Label) → All (λ (next : Label). next.0 < m) nexts → All (IsInto m) (map (λ (next : Label). (label_of n, next)) nexts)
+from_into m n [] h = All-nil (IsInto m)
+from_into m n (x ∷ nexts) h =
+    All-cons (IsInto m) (label_of n, x) (map (λ (next : Label). (label_of n, next)) nexts) (All-head (λ (next : Label). next.0 < m) x nexts h)
+    (from_into m n nexts (All-tail (λ (next : Label). next.0 < m) x nexts h))
 
-pub edges_between : (m n : ℕ) (places : List Place) → n + length places ≤ m → All (λ next. next.0 < m) (all_nexts places) → All (IsBetween m) (edges_of n places)
+pub edges_into_labels : (m n : ℕ) (places : List Place) → All (λ next. next.0 < m) (all_nexts places) → All (IsInto m) (edges_of n places)
 unfolding edges_of edges_from all_nexts
-edges_between m n [] h within = All-nil (IsBetween m)
-edges_between m n (p ∷ places) h within =
-    All-append (IsBetween m) (map (λ (next : Label). (label_of n, next)) (successors p.instr)) (edges_of (suc n) places)
-    (from_between m n (successors p.instr) (omega arith) (All-left (λ (next : Label). next.0 < m) (successors p.instr) (all_nexts places) within))
-    (edges_between m (suc n) places (omega arith) (All-right (λ (next : Label). next.0 < m) (successors p.instr) (all_nexts places) within))
+edges_into_labels m n [] within = All-nil (IsInto m)
+edges_into_labels m n (p ∷ places) within =
+    All-append (IsInto m) (map (λ (next : Label). (label_of n, next)) (successors p.instr)) (edges_of (suc n) places)
+    (from_into m n (successors p.instr) (All-left (λ (next : Label). next.0 < m) (successors p.instr) (all_nexts places) within))
+    (edges_into_labels m (suc n) places (All-right (λ (next : Label). next.0 < m) (successors p.instr) (all_nexts places) within))
 
 -- ---- into a label
 

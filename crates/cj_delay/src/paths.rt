@@ -9,13 +9,13 @@ ghost use Rattle.cj_delay.specs.DelayedAssume.{nexts_in, is_label, is_silent, ba
 ghost use Rattle.cj_delay.specs.CountedEdges.{AreNextsWithin, AreCounted};
 
 use crate::edges::edges_into;
-use cj_draft::{Code, Point, Skipped, Successors, VInstr, told};
+use cj_draft::{Code, Point, Skipped, Successors, VInstr, limits, told};
 use cj_ir::{FunId, Guard, Instr, Label, Program};
 use cj_links::EdgeLists;
 use cj_rows::{fresh_row, guards_offence, register_offence, room_offence};
 
 /// Base turns that an Assume takes back, at most.
-const MAX_BACK: usize = 4;
+const MAX_BACK: usize = limits::MAX_BACK as usize;
 
 /// Why no Assume with these guards stands at the end of the path: the first of the conditions that holds.
 #[tactic(auto, unfolding(crate::specs::DelayedAssume::delay_offence, crate::specs::DelayedAssume::offence_on, crate::specs::DelayedAssume::offence_from, cj_rows::specs::Guards::or_next, cj_rows::specs::Guards::if_missing))]

@@ -11,3 +11,4 @@ pub mod BaseBody
 pub mod Bodies
 pub mod Skips
 pub mod Inlining
+pub mod Contexts

@@ -9,6 +9,7 @@ pub mod facts;
 pub mod frames;
 pub mod instructions;
 pub mod laws;
+pub mod limits;
 pub mod passes;
 pub mod points;
 pub mod versions;

@@ -73,6 +73,7 @@ impl<'p> Version<'p> {
         &self.context
     }
 
+    #[inline]
     pub fn code(&self) -> &Code
         ensures same { result.now ≡ self.now.code }
         ensures sound { Sound self.now.program self.now.context self.now.code.function self.now.code }

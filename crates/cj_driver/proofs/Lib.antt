@@ -1,2 +1,3 @@
+mod Benches
 mod Ends
 mod Numbers

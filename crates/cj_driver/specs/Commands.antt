@@ -12,7 +12,7 @@ use Rattle.cj_driver.specs.declared.command.Job.TheVariants.{Alone, Format}
 -- the command of one word
 unfoldable pub command_named : List ℕ → Option Command
 command_named word =
-    if bytes_eq word (codes "alone") then Some (OnText (OnInput Alone)) else
+    if bytes_eq word (codes "alone") then Some (OnText (OnInput (Alone false))) else
     (if bytes_eq word (codes "format") then Some (OnText (OnInput Format)) else
     (if bytes_eq word (codes "replay") then Some (OnText (OnReplay false)) else None))
 
@@ -27,8 +27,11 @@ bench_of word = if is_bench_number word then Some (Bench (value 0 word)) else No
 -- the command of two words
 unfoldable pub command_with : List ℕ → List ℕ → Option Command
 command_with word next =
-    if bytes_eq word (codes "replay") then (if bytes_eq next (codes "stats") then Some (OnText (OnReplay true)) else None) else
-    (if bytes_eq word (codes "bench") then bench_of next else None)
+    if bytes_eq word (codes "bench") then bench_of next else
+    (if bytes_eq next (codes "stats") then (
+    if bytes_eq word (codes "alone") then Some (OnText (OnInput (Alone true))) else
+    (if bytes_eq word (codes "replay") then Some (OnText (OnReplay true)) else None))
+    else None)
 
 -- the command that the words are, if they are a form of the call
 unfoldable pub command_of : List (List ℕ) → Option Command

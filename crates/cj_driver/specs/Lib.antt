@@ -1,5 +1,6 @@
 pub mod Commands
-pub mod Calls
+pub mod TeamCommands
+pub mod Made
 pub mod Outside
 pub mod Texts
 pub mod Answers

@@ -70,9 +70,11 @@ pub record ToldMore (o : Outside) : Type 0 where
 abbrev pub TookMore : Outside → Type 0
 TookMore o = GaveMore o.given o.left longest
 
+-- the source counted one fault more
 abbrev pub ReadRose : Outside → Type 0
 ReadRose o = Rose o.read_faults o.read_faults_now
 
+-- the sink counted one fault more
 abbrev pub WriteRose : Outside → Type 0
 WriteRose o = Rose o.write_faults o.write_faults_now
 

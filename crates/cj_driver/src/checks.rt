@@ -1,11 +1,13 @@
 //! What the tests ask of whole calls, from bytes to bytes.
 
-use crate::{Finish, fault_line, top_alone};
-use cj_io::{MemSink, MemSource};
+use crate::{Finish, fault_line, top, top_alone};
+use cj_io::{MemSink, MemSource, OpenGate};
 use std::alloc::{AllocError, Global};
 use std::ops::Range;
 use std::process::Abort;
+use std::sync::Wait;
 use std::test::Fail;
+use std::thread::Threads;
 
 pub(crate) const USAGE: &str =
     "usage: corejit alone [stats] | replay [stats] | format | bench N [CALLERS WORKERS] | run CALLERS WORKERS\n";
@@ -110,6 +112,30 @@ pub(crate) fn check(
     let text = joined(alloc, text)?;
     assert_eq!(rt; answer.1.as_slice(), text.as_bytes(), "{input:?}");
     assert_eq!(rt; answer.0, status, "{input:?}");
+    Ok(())
+}
+
+// The same of a call with callers and workers in threads.
+pub(crate) fn check_team<R: Abort + Threads + Wait + Sync>(
+    rt: &R,
+    alloc: Global,
+    words: &[&str],
+    input: &[&str],
+    status: u8,
+    text: &[&str],
+) -> Result<(), Fail> {
+    let bytes = joined(alloc, input)?.into_bytes();
+    let mut source = MemSource::new(bytes, 1000, Vec::new(alloc));
+    let mut sink = MemSink::new(alloc, 1000, Vec::new(alloc));
+    let words = command_line(alloc, words)?;
+    let finish = top(rt, alloc, &words, &mut source, &mut sink, &OpenGate);
+    assert_eq!(rt; finish.status, status, "{input:?}");
+    let written = written(alloc, &sink, &finish)?;
+    assert_eq!(rt;
+        written.as_slice(),
+        joined(alloc, text)?.as_bytes(),
+        "{input:?}"
+    );
     Ok(())
 }
 

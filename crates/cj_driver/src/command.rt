@@ -29,8 +29,9 @@ pub enum Task {
 /// What is done with an input.
 #[derive(Clone, Copy, Debug, PartialEq, Eq)]
 pub enum Job {
-    /// Runs the calls, one after the other, and writes the text of their reports.
-    Alone,
+    /// Runs the calls, one after the other, and writes the text of their reports, with a line of counts for each where
+    /// `stats` holds.
+    Alone { stats: bool },
     /// Writes the canonical text.
     Format,
 }
@@ -54,7 +55,7 @@ fn command_named(word: &[u8]) -> Option<Command>
     ensures { result ≡ command_named word.now }
 {
     if word == "alone".as_bytes() {
-        Some(Command::OnText(Task::OnInput(Job::Alone)))
+        Some(Command::OnText(Task::OnInput(Job::Alone { stats: false })))
     } else if word == "format".as_bytes() {
         Some(Command::OnText(Task::OnInput(Job::Format)))
     } else if word == "replay".as_bytes() {
@@ -68,13 +69,14 @@ fn command_named(word: &[u8]) -> Option<Command>
 fn command_with(word: &[u8], next: &str) -> Option<Command>
     ensures { result ≡ command_with word.now next.now }
 {
-    if word == "replay".as_bytes() {
-        if next.as_bytes() == "stats".as_bytes() {
-            return Some(Command::OnText(Task::OnReplay { stats: true }));
-        }
-        None
-    } else if word == "bench".as_bytes() {
+    if word == "bench".as_bytes() {
         bench_of(next)
+    } else if next.as_bytes() != "stats".as_bytes() {
+        None
+    } else if word == "alone".as_bytes() {
+        Some(Command::OnText(Task::OnInput(Job::Alone { stats: true })))
+    } else if word == "replay".as_bytes() {
+        Some(Command::OnText(Task::OnReplay { stats: true }))
     } else {
         None
     }
@@ -82,7 +84,7 @@ fn command_with(word: &[u8], next: &str) -> Option<Command>
 
 /// The bench of a number of one to six digits.
 #[tactic(auto, unfolding(crate::specs::Commands::bench_of))]
-fn bench_of(word: &str) -> Option<Command>
+pub(crate) fn bench_of(word: &str) -> Option<Command>
     ensures { result ≡ bench_of word.now }
 {
     if !is_bench_number(word.as_bytes()) {

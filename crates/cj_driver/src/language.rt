@@ -89,7 +89,7 @@ fn each_end(rt: HostRuntime) -> Result<(), Fail> {
 }
 
 #[test]
-fn hints_change_nothing(rt: HostRuntime) -> Result<(), Fail> {
+fn hints_change_no_answer(rt: HostRuntime) -> Result<(), Fail> {
     let input = "fun main(a) { 1: cond a -> 2, 3  2: return 1  3: return 0 }
         calls guess main a 7  cold main 1 else  warm main 2
         call main 7 memory 0 limit 10";

@@ -1,38 +1,45 @@
 //! The text that a source gives.
 
-ghost use Rattle.std.specs.Prelude.{◌≡◌, Bool, None, Some, Ok, IfOk, IfErr, [], ◌≤◌};
+ghost use Rattle.std.specs.Prelude.{◌≡◌, Ok, OnOk, IfOk, IfErr};
 ghost use Rattle.cj_script.specs.Fitting.{FitsScript};
-ghost use Rattle.cj_events.specs.Fitting.{FitsEvents};
-ghost use Rattle.cj_driver.specs.Outside.{AreWhole};
-ghost use Rattle.cj_driver.specs.Texts.{WasText};
-ghost use Rattle.cj_driver.specs.Steps.{StopStands};
-ghost use Rattle.cj_driver.specs.declared.command.Task.{Task};
-ghost use Rattle.cj_driver.specs.declared.command.Task.TheVariants.{OnInput, OnReplay};
-ghost use Rattle.cj_driver.specs.declared.command.Job.{Job};
+ghost use Rattle.cj_events.specs.Playable.{CanPlay};
+ghost use Rattle.cj_events.specs.Replays.{ReadsReplay};
+ghost use Rattle.cj_text.specs.Reads.{Reads};
+ghost use Rattle.cj_driver.specs.Outside.{AreWhole, WasRead};
+ghost use Rattle.cj_driver.specs.Steps.{BytesStop, StopStands};
 
-use cj_events::{Events, parse_replay};
 use cj_io::{ReadError, Source, read_all};
 use cj_ir::{Checked, Input};
 use cj_text::parse;
 use cj_tokens::{ParseError, Refused};
+use cj_world::{Events, parse_replay};
 use std::alloc::Global;
+use thiserror::Error;
 
 /// The longest text, in bytes.
 const LONGEST: u32 = 4_194_304;
 
 /// Why no text was read.
-#[derive(Clone, Copy, Debug, PartialEq, Eq)]
+#[derive(Clone, Copy, Debug, PartialEq, Eq, Error)]
 pub enum Stop {
+    /// The bytes are no text of the command, and this is their first offence.
+    #[error("the text is refused")]
     Refused(Refused),
+    /// The source failed, and at most `LONGEST` bytes were taken.
+    #[error("the source failed")]
     ReadFault,
+    /// The source gave more than `LONGEST` bytes.
+    #[error("there are too many bytes")]
     TooLong,
+    #[error("out of memory")]
     NoMemory,
 }
 
 /// All bytes of the source, up to its end.
 fn read_bytes<S: Source>(alloc: Global, source: &mut S) -> Result<Vec<u8>, Stop>
     ensures read { IfOk result (λ bytes. AreWhole (S.left source.old) (S.left source.new) bytes.items) }
-    ensures stop { IfErr result (λ stop. (t : Task) → StopStands t (S.left source.old) (S.left source.new) (S.faults source.old) (S.faults source.new) stop) }
+    ensures calm { OnOk result (S.faults source.new ≡ S.faults source.old) }
+    ensures stop { IfErr result (λ stop. BytesStop (S.left source.old) (S.left source.new) (S.faults source.old) (S.faults source.new) stop) }
 {
     match read_all(alloc, source, LONGEST) {
         Ok(bytes) => Ok(bytes),
@@ -44,9 +51,10 @@ fn read_bytes<S: Source>(alloc: Global, source: &mut S) -> Result<Vec<u8>, Stop>
 
 /// The input that the source's bytes are.
 pub fn read_input<S: Source>(alloc: Global, source: &mut S) -> Result<Input, Stop>
-    ensures read { IfOk result (λ input. (job : Job) → WasText (OnInput job) (S.left source.old) (S.left source.new) (Ok input)) }
+    ensures read { IfOk result (λ input. WasRead Reads (S.left source.old) (S.left source.new) (Ok input)) }
     ensures fits { IfOk result (λ input. FitsScript input.checked input.script) }
-    ensures stop { IfErr result (λ stop. (job : Job) → StopStands (OnInput job) (S.left source.old) (S.left source.new) (S.faults source.old) (S.faults source.new) stop) }
+    ensures calm { OnOk result (S.faults source.new ≡ S.faults source.old) }
+    ensures stop { IfErr result (λ stop. StopStands Reads (S.left source.old) (S.left source.new) (S.faults source.old) (S.faults source.new) stop) }
 {
     let bytes = match read_bytes(alloc, source) {
         Ok(bytes) => bytes,
@@ -61,9 +69,10 @@ pub fn read_input<S: Source>(alloc: Global, source: &mut S) -> Result<Input, Sto
 
 /// The replay that the source's bytes are.
 pub fn read_replay<S: Source>(alloc: Global, source: &mut S) -> Result<(Checked, Events), Stop>
-    ensures read { IfOk result (λ replay. (stats : Bool) → WasText (OnReplay stats) (S.left source.old) (S.left source.new) (Ok replay)) }
-    ensures fits { IfOk result (λ replay. FitsEvents replay.0 replay.1) }
-    ensures stop { IfErr result (λ stop. (stats : Bool) → StopStands (OnReplay stats) (S.left source.old) (S.left source.new) (S.faults source.old) (S.faults source.new) stop) }
+    ensures read { IfOk result (λ replay. WasRead ReadsReplay (S.left source.old) (S.left source.new) (Ok replay)) }
+    ensures playable { IfOk result (λ replay. CanPlay replay.0 replay.1) }
+    ensures calm { OnOk result (S.faults source.new ≡ S.faults source.old) }
+    ensures stop { IfErr result (λ stop. StopStands ReadsReplay (S.left source.old) (S.left source.new) (S.faults source.old) (S.faults source.new) stop) }
 {
     let bytes = match read_bytes(alloc, source) {
         Ok(bytes) => bytes,

@@ -14,8 +14,8 @@ use Rattle.cj_ir.specs.declared.language.Instr.{Instr}
 use Rattle.cj_base.specs.declared.machine.Frame.{Frame}
 use Rattle.cj_base.specs.declared.machine.Waiting.{Waiting}
 use Rattle.cj_base.specs.Machine.{Stack, over}
-use Rattle.cj_base.specs.Same.{Same}
 use Rattle.cj_base.specs.Run.{Begun}
+use Rattle.cj_base.proofs.SameLaws.{same_fits}
 use Rattle.cj_base.specs.Fits.{IsFrameOf, IsWaitingOf, StackFits}
 use Rattle.cj_base.proofs.FitsLemmas.{fine_at, instr_found}
 use Rattle.cj_base.proofs.RunLemmas.{run_fits, FitsRun}
@@ -35,11 +35,6 @@ use Rattle.cj_engine.specs.CodeMaps.{SoundCodes}
 use Rattle.cj_engine.specs.Stands.{IsPlaced, IsPausedVersion, PausedIs, PausedAre, VersionTop, TopStands, Stands}
 use Rattle.cj_engine.proofs.Arms.{place_is}
 use Rattle.cj_engine.proofs.Turns.{place_found}
-
--- Where one of two stacks that are the same fits a program, so does the other.
-pub same_fits : (P : Program) (a b : Stack) → Same P a b → StackFits P a → StackFits P b
-unfolding Same
-same_fits P a b same fits = subst (StackFits P) same fits
 
 -- ---- what exists for an activation
 

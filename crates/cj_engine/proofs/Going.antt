@@ -1,5 +1,5 @@
 -- The run of a call, from its start on and from turn to turn.
-use Rattle.std.proofs.Common.{◌≡◌, ◌∙◌, sym, subst, arith, ℕ, ◌+◌, ◌<◌, ◌≤◌, List, [], ◌++◌, length, append-nil, Option}
+use Rattle.std.proofs.Common.{◌≡◌, sym, subst, arith, ℕ, ◌+◌, ◌<◌, ◌≤◌, List, [], ◌++◌, length, append-nil, Option}
 use Rattle.std.specs.Prelude.{slice_get}
 use Rattle.cj_ir.specs.WellFormed.{IsWellFormed, Takes}
 use Rattle.cj_ir.specs.declared.language.Program.{Program}
@@ -12,12 +12,13 @@ use Rattle.cj_engine.specs.Versions.{State, Codes, Progress, Continues, Finishes
 use Rattle.cj_engine.specs.VersionRuns.{version_start, version_run}
 use Rattle.cj_engine.specs.Marks.{turn_marks, run_marks}
 use Rattle.cj_engine.specs.CodeMaps.{SoundCodes, Grows}
-use Rattle.cj_engine.specs.Stands.{Holds}
+use Rattle.cj_engine.specs.Stands.{HasEnded, Holds}
 use Rattle.cj_engine.specs.Machines.{progress_of}
-use Rattle.cj_engine.specs.Engines.{IsUnderWay, IsRun, RunGoes}
+use Rattle.cj_engine.specs.Engines.{IsUnderWay, IsRun, HasFinished, RunGoes}
 use Rattle.cj_engine.proofs.Growing.{stands_grows}
-use Rattle.cj_engine.proofs.Runs.{CountsOne, turn_counts, run_later, continues_defined, run_turns, run_next, report_at_end}
-use Rattle.cj_engine.proofs.RunMarks.{marks_next, marks_at_end}
+use Rattle.cj_engine.proofs.Runs.{CountsOne, turn_counts, run_later, continues_defined, run_turns, run_next, finished_stays, report_at_end}
+use Rattle.cj_engine.proofs.Memories.{memory_at, memory_finishes}
+use Rattle.cj_engine.proofs.RunMarks.{marks_next}
 use Rattle.cj_engine.proofs.Reporting.{start_holds}
 
 -- the start
@@ -51,6 +52,14 @@ run_grows P codes later looks call s is g = record {
   limit = is.limit;
 }
 
+-- a run that a turn has ended
+pub finished_is : (P : Program) (codes : Codes) (looks : List Look) (call : Begun) (n : ℕ) (end : End) (s : State) → version_run P codes looks call n ≡ Finishes end s → n ≤ call.limit → s.entries ≡ length looks → HasEnded P call end s → HasFinished P codes looks call end s
+finished_is P codes looks call n end s run within used ended = record {
+  report = report_at_end P codes looks call n end s run within used;
+  memory = memory_at P codes looks call (Finishes end s) s.memory (finished_stays P codes looks call n call.limit end s run within) (memory_finishes end s);
+  agrees = ended.memory;
+}
+
 -- ---- a turn
 
 -- each turn counts one
@@ -72,12 +81,6 @@ module _ (P : Program) (call : Begun) (codes later : Codes) (g : Grows codes lat
       subst (λ (ls : List Look). run_marks P later ls call (s.turns + 1) ≡ run_marks P codes looks call s.turns ++ turn_marks P later s) (sym longer)
       (marks_next P call codes later looks more s.turns s g is.run)
 
-  -- those of the whole run, where the turn ended it
-  pub end_marked : (end : End) (after : State) → s.turns < call.limit → version_turn P later (slice_get now (length looks)) s ≡ Finishes end after → run_marks P later now call call.limit ≡ run_marks P codes looks call s.turns ++ turn_marks P later s
-  end_marked end after before turn =
-      let within : s.turns + 1 ≤ call.limit = omega arith in
-      marks_at_end P later now call (s.turns + 1) call.limit end after (turn_ran (Finishes end after) turn) within ∙ turn_marked
-
   -- what it leaves
   pub turn_goes : s.turns < call.limit → (after : State) (answer : Turned) → version_turn P later (slice_get now (length looks)) s ≡ progress_of answer after → Holds P later call (progress_of answer after) → after.entries ≡ length now → RunGoes P later now call answer after
   turn_goes before after Running turn holds used =
@@ -93,4 +96,4 @@ module _ (P : Program) (call : Begun) (codes later : Codes) (g : Grows codes lat
       }
   turn_goes before after (Ended end) turn holds used =
       let within : s.turns + 1 ≤ call.limit = omega arith in
-      report_at_end P later now call (s.turns + 1) end after (turn_ran (Finishes end after) turn) within used
+      finished_is P later now call (s.turns + 1) end after (turn_ran (Finishes end after) turn) within used holds

@@ -1,5 +1,5 @@
 -- How the code's activations change, in the words of the versioned machine.
-use Rattle.std.proofs.Common.{◌≡◌, refl, List, [], ◌∷◌, ◌++◌, ℤ, append-nil, Option, None, Some}
+use Rattle.std.proofs.Common.{◌≡◌, ◌∙◌, ap, refl, List, [], ◌∷◌, ◌++◌, ℤ, append-nil, Option, None, Some}
 use Rattle.std.specs.Prelude.{IsSome}
 use Rattle.cj_base.specs.declared.machine.Turned.TheVariants.{Running}
 use Rattle.cj_base.specs.Machine.{On, Fault, BadAddress, with_value, cell, with_cell, store_effect}
@@ -7,7 +7,9 @@ use Rattle.cj_ir.specs.declared.language.Label.{Label}
 use Rattle.cj_activations.specs.Activations.{VersionFrame, Active, InBase, InVersion}
 use Rattle.cj_activations.specs.Changes.{active_regs, with_label, with_regs}
 use Rattle.cj_engine.specs.Versions.{State, Continues, counted, moved_to}
-use Rattle.cj_engine.specs.Machines.{CarriesOut, went_on}
+use Rattle.cj_calls.specs.declared.report.Look.{Look}
+use Rattle.cj_engine.specs.declared.machine.Machine.{Machine}
+use Rattle.cj_engine.specs.Machines.{state_of, CarriesOut, went_on}
 
 pub labelled : (a : Active) (next : Label) → with_label a next ≡ moved_to a next (active_regs a)
 unfolding with_label moved_to active_regs
@@ -44,3 +46,20 @@ printed_more s printed next regs memory v e = rw (append-nil, e) refl
 pub passes : (a : Active) (next : Label) (v : VersionFrame) → a ≡ InVersion v → with_label a next ≡ moved_to (InVersion v) next v.regs
 unfolding with_label moved_to
 passes a next v e = rw e refl
+
+-- a machine is its state and its looks
+abbrev machine_in : State → List Look → Machine
+machine_in s looks = record {
+  activations = s.stack;
+  memory = s.memory;
+  printed = s.printed;
+  turns = s.turns;
+  base_turns = s.base_turns;
+  fails = s.fails;
+  looks = looks;
+  notes = s.notes;
+}
+
+pub same_machine : (a b : Machine) → state_of a ≡ state_of b → a.looks ≡ b.looks → a ≡ b
+unfolding state_of
+same_machine a b state looks = ap (λ (s : State). machine_in s a.looks) state ∙ ap (machine_in (state_of b)) looks

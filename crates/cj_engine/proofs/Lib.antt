@@ -6,9 +6,15 @@ pub mod Turns
 pub mod Arms
 pub mod Growing
 pub mod Runs
+pub mod Memories
 pub mod RunMarks
 pub mod Reporting
 pub mod Going
+pub mod Paths
+pub mod Gliding
+pub mod Lines
+pub mod Onwards
+pub mod Keeping
 pub mod Existing
 pub mod PlainTrails
 pub mod Worked

@@ -97,7 +97,7 @@ module _ (P : Program) (codes : Codes) (call : Begun) (formed : IsWellFormed P) 
         notes = no_notes P call;
       })
 
-  next_holds : (trail : List Look) (o : Progress) → Holds P codes call o → Holds P codes call (one_turn_more P codes trail o)
+  pub next_holds : (trail : List Look) (o : Progress) → Holds P codes call o → Holds P codes call (one_turn_more P codes trail o)
   unfolding one_turn_more
   next_holds trail (Continues s) h = turn_holds P codes call formed sound (slice_get trail s.entries) s h
   next_holds trail (Finishes end s) h = h

@@ -108,7 +108,7 @@ one_counted n turns (Continues s) e c = omega arith
 one_counted n turns (Finishes end s) e c = omega arith
 one_counted n turns Undefined e c = tt
 
-one_more_counted : (P : Program) (codes : Codes) (trail : List Look) (n : ℕ) (o : Progress) → HasTurns n o → HasTurns (suc n) (one_turn_more P codes trail o)
+pub one_more_counted : (P : Program) (codes : Codes) (trail : List Look) (n : ℕ) (o : Progress) → HasTurns n o → HasTurns (suc n) (one_turn_more P codes trail o)
 unfolding one_turn_more
 one_more_counted P codes trail n (Continues s) h =
     one_counted n s.turns (version_turn P codes (slice_get trail s.entries) s) h (turn_counts P codes (slice_get trail s.entries) s)
@@ -132,7 +132,7 @@ unfolding begins_in
 begins_kept call o later kept =
     ⊎_elim (λ none. inl (ap (begins_in call) none)) (λ same. inr (ap (begins_in call) same)) kept
 
-module _ (P : Program) (call : Begun) (codes later : Codes) (g : Grows codes later) (trail more : List Look) where
+module _ (P : Program) (codes later : Codes) (g : Grows codes later) (trail more : List Look) where
   next_kept : (o : Progress) → Kept (one_turn_more P codes trail o) (one_turn_more P later (trail ++ more) o)
   unfolding one_turn_more
   next_kept (Continues s) =
@@ -140,19 +140,20 @@ module _ (P : Program) (call : Begun) (codes later : Codes) (g : Grows codes lat
   next_kept (Finishes end s) = inr refl
   next_kept Undefined = inl refl
 
-  one_more_kept : (o o' : Progress) → Kept o o' → Kept (one_turn_more P codes trail o) (one_turn_more P later (trail ++ more) o')
+  pub one_more_kept : (o o' : Progress) → Kept o o' → Kept (one_turn_more P codes trail o) (one_turn_more P later (trail ++ more) o')
   unfolding one_turn_more
   one_more_kept o o' kept =
       ⊎_elim (λ none. inl (ap (one_turn_more P codes trail) none))
       (λ same. ⊎_elim (λ none. inl none) (λ k. inr (k ∙ ap (one_turn_more P later (trail ++ more)) same)) (next_kept o)) kept
 
+module _ (P : Program) (call : Begun) (codes later : Codes) (g : Grows codes later) (trail more : List Look) where
   -- a run that is defined is the same over more code and a longer trail
   pub run_kept : (n : ℕ) → Kept (version_run P codes trail call n) (version_run P later (trail ++ more) call n)
   unfolding version_run version_start
   run_kept zero =
       begins_kept call (entered P codes (slice_get trail 0) call.function call.args) (entered P later (slice_get (trail ++ more) 0) call.function call.args)
       (entered_kept P codes later g (slice_get trail 0) (slice_get (trail ++ more) 0) (look_kept trail more 0) call.function call.args)
-  run_kept (suc n) = one_more_kept (version_run P codes trail call n) (version_run P later (trail ++ more) call n) (run_kept n)
+  run_kept (suc n) = one_more_kept P codes later g trail more (version_run P codes trail call n) (version_run P later (trail ++ more) call n) (run_kept n)
 
   pub run_later : (n : ℕ) (o : Progress) → o ≢ Undefined → version_run P codes trail call n ≡ o → version_run P later (trail ++ more) call n ≡ o
   run_later n o defined e = ⊎_elim (λ none. absurd (defined (sym e ∙ none))) (λ same. sym same ∙ e) (run_kept n)

@@ -53,6 +53,15 @@ version_call_takes instr args (step.Ends end) regs m needs enters = absurd enter
 version_call_takes instr args (step.Returns v) regs m needs enters = absurd enters
 version_call_takes instr args step.Fails regs m needs enters = absurd enters
 
+-- such a step has changed nothing yet
+entry_same : (P : Program) (turn : Turn) (args : List ℤ) (old now : State) (step : Step) → IsStep P turn args old now step → IsEntry step → now ≡ old
+entry_same P turn args old now (step.Enters dest g next) made enters = made.0
+entry_same P turn args old now step.Goes made enters = absurd enters
+entry_same P turn args old now (step.Branches edge) made enters = absurd enters
+entry_same P turn args old now (step.Ends end) made enters = absurd enters
+entry_same P turn args old now (step.Returns v) made enters = absurd enters
+entry_same P turn args old now step.Fails made enters = absurd enters
+
 -- what was left to do after a step makes this of the turn
 abbrev IsCarried : Program → List ℤ → State → Step → Codes → Option Look → Progress → Type 0
 IsCarried P args now step later look final = (turn : Turn) (before : State) → IsStep P turn args before now step → turn later look ≡ final
@@ -79,6 +88,9 @@ module _ {P : Program} {codes : Codes} {s : State} {f : FunId} {label : Label} {
   module _ {now : State} {args : List ℤ} {step : Step} (made : IsBaseStep line.instr args s now step) where
     pub base_step_ready : IsReady P codes args f label now step
     base_step_ready = base_fits P codes _ args f label s now line.instr step can at_line base_fine made.needs (made.made P top_here.frame top_here.top)
+
+    pub base_entry_same : IsEntry step → now ≡ s
+    base_entry_same enters = entry_same P _ args s now step (made.made P top_here.frame top_here.top) enters
 
     pub base_entry_takes : IsEntry step → TurnTakesMemory P codes s
     base_entry_takes enters = base_takes (λ fr top. entry_takes line.instr args step fr s.memory made.needs enters)
@@ -132,6 +144,9 @@ module _ {P : Program} {codes : Codes} {s : State} {f : FunId} {offset : ℕ} {l
       pub version_step_ready : IsReady P codes args f label now step
       version_step_ready = version_fits P codes _ args f label version_fine.0 s now instr step can version_here.inside version_fine.1 made.needs (made.made P version_here.frame version_here.top)
 
+      pub version_entry_same : IsEntry step → now ≡ s
+      version_entry_same enters = entry_same P _ args s now step (made.made P version_here.frame version_here.top) enters
+
       pub version_entry_takes : IsEntry step → TurnTakesMemory P codes s
       version_entry_takes enters = version_takes (version_call_takes instr args step (active_regs s.stack.top) s.memory made.needs enters)
 
@@ -142,6 +157,12 @@ module _ {P : Program} {codes : Codes} {s : State} {f : FunId} {offset : ℕ} {l
           subst (λ (xs : List Look). version_turn P later (slice_get found_looks (length xs)) s ≡ final) same
           (turn_at_version P later look s v version_here.code version_here.place version_here.top (grows v.function v.offset version_here.code version_here.found_own) version_here.at_own
           ∙ ap (λ (i : VInstr). version_turn_by P later look s v (version_effect i v.regs s.memory)) same_instr ∙ carried _ s (made.made P v version_here.top))
+
+      pub version_turn_over : {later : Codes} {final : Progress} (look : Option Look) → Grows codes later → IsCarried P args now step later look final → version_turn P later look s ≡ final
+      version_turn_over {later} {final} look grows carried =
+          let v : VersionFrame = version_here.frame in
+          turn_at_version P later look s v version_here.code version_here.place version_here.top (grows v.function v.offset version_here.code version_here.found_own) version_here.at_own
+          ∙ ap (λ (i : VInstr). version_turn_by P later look s v (version_effect i v.regs s.memory)) same_instr ∙ carried _ s (made.made P v version_here.top)
 
       pub version_marks_done : (later : Codes) → Grows codes later → turn_marks P later s ≡ marks_told step f label args
       version_marks_done later grows =

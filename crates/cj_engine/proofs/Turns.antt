@@ -42,6 +42,7 @@ use Rattle.cj_activations.specs.Activations.{VersionFrame, Active, InBase, InVer
 use Rattle.cj_engine.specs.Versions.{State, Codes, place_in, moved_to, paused, version_entry, entered, counted, enters, resumed_by, resumed_at, returns_to, turn_by, passed, keep_note, rebuilt, version_turn_by, turn_in_base, turn_in_version, turn_of, version_turn}
 use Rattle.cj_engine.specs.CodeMaps.{SoundCodes, Grows}
 use Rattle.cj_engine.specs.Stands.{IsPlaced, IsPausedVersion, PausedIs, PausedAre, BackStands, VersionTop, TopStands, versions_on_top, versions_waiting, CountsStand, Stands, HasEnded, Holds}
+use Rattle.cj_engine.proofs.Memories.{memory_over}
 use Rattle.cj_engine.proofs.Counting.{counts_on, counts_pass, counts_fail, counts_bound}
 use Rattle.cj_engine.proofs.Effects.{TakesOf, effect_takes, GuardedBy, guarded_by, CallsBy, VersionCallsBy, calls_by}
 use Rattle.cj_engine.proofs.Backs.{own_back, silent_keeps, carried_back}
@@ -127,6 +128,7 @@ module _ (P : Program) (codes : Codes) (call : Begun) (formed : IsWellFormed P) 
       let prints : s.printed ≡ s.printed ++ [] = sym (append-nil s.printed) in
       record {
         run = subst (λ p. EndStands P call (s.base_turns + 1) p end) prints run';
+        memory = memory_over P call s.base_turns s.printed s.printed (record { stack = h.run.found; memory = s.memory }) end (s.base_turns + 1) h.run.run run';
         notes = h.notes;
         bound = omega arith;
         no_limit = other;

@@ -1,6 +1,9 @@
 -- A run that is started by hand and makes its turns one by one.
 use Rattle.std.proofs.Common.{◌≡◌, ◌<◌, ℕ, refl, sym, subst, List}
-use Rattle.std.specs.Prelude.{ℤ}
+use Rattle.std.specs.Prelude.{ℤ, Bool, true, false, Some, IsSome, ◌==◌}
+use Rattle.cj_ir.specs.declared.language.FunId.{FunId}
+use Rattle.cj_draft.specs.declared.code.Code.{Code}
+use Rattle.cj_engine.specs.OneVersion.{if_both, one_code}
 use Rattle.cj_ir.specs.declared.language.Program.{Program}
 use Rattle.cj_ir.specs.declared.script.ScriptCall.{ScriptCall}
 use Rattle.cj_base.specs.declared.machine.Turned.{Turned}
@@ -12,6 +15,12 @@ use Rattle.cj_engine.specs.CodeMaps.{no_codes}
 use Rattle.cj_engine.specs.Engines.{begun_with, IsUnderWay, IsRun, RunGoes}
 use Rattle.cj_engine.specs.Walks.{Walks}
 use Rattle.cj_engine.proofs.Going.{run_under_way}
+
+both_found : (own there : Bool) (code : Code) → IsSome (if_both own there code) → if_both own there code ≡ Some code
+unfolding if_both
+both_found true true code is = refl
+both_found true false code is = let never : ⊥ = cc in absurd never
+both_found false there code is = let never : ⊥ = cc in absurd never
 
 -- the start
 pub run_walks : (P : Program) (looks : List Look) (call : ScriptCall) (memory : List ℤ) (s : State) → IsRun P no_codes looks (begun_with call memory) s → Walks P looks call.limit s
@@ -29,3 +38,9 @@ pub walk_goes : (P Q : Program) (looks later : List Look) (limit : ℕ) (s t : S
 walk_goes P Q looks later limit s t answer same w before goes is =
     let run : RunGoes P no_codes later w.call Running t = subst (λ (a : Turned). RunGoes P no_codes later w.call a t) is (goes w.call w.run (subst (λ (n : ℕ). s.turns < n) (sym w.same) before)) in
     subst (λ (R : Program). Walks R later limit t) (sym same) (record { call = w.call; same = w.same; run = run })
+
+-- ---- one version
+
+pub one_found : (offset : ℕ) (code : Code) (f : FunId) (at : ℕ) → IsSome (one_code offset code f at) → one_code offset code f at ≡ Some code
+unfolding one_code
+one_found offset code f at is = both_found (f.0 == code.function.0) (at == offset) code is

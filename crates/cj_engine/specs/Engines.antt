@@ -1,11 +1,13 @@
 -- What holds before a turn of the engine, and what a turn leaves.
-use Rattle.std.specs.Prelude.{◌≡◌, ◌<◌, ◌≤◌, ℕ, List, length, Some, Bool, true, false, ℤ}
+use Rattle.std.specs.Prelude.{◌≡◌, ◌<◌, ◌≤◌, ◌+◌, ℕ, List, length, Some, Bool, true, false, ℤ}
 use Rattle.cj_ir.specs.WellFormed.{Takes, IsInstrFine}
 use Rattle.cj_ir.specs.Program.{instr_at, label_count}
 use Rattle.cj_ir.specs.declared.language.Program.{Program}
 use Rattle.cj_ir.specs.declared.language.Instr.{Instr}
 use Rattle.cj_ir.specs.declared.script.ScriptCall.{ScriptCall}
 use Rattle.cj_base.specs.declared.machine.Frame.{Frame}
+use Rattle.cj_base.specs.declared.machine.End.{End}
+use Rattle.cj_base.specs.declared.machine.End.TheVariants.{TurnLimit}
 use Rattle.cj_base.specs.declared.machine.Turned.{Turned}
 use Rattle.cj_base.specs.declared.machine.Turned.TheVariants.{Running, Ended}
 use Rattle.cj_base.specs.Run.{Begun}
@@ -17,9 +19,17 @@ use Rattle.cj_calls.specs.declared.report.Look.{Look}
 use Rattle.cj_activations.specs.Activations.{VersionFrame, Active, InBase, InVersion}
 use Rattle.cj_engine.specs.Versions.{State, Codes, Continues}
 use Rattle.cj_engine.specs.VersionRuns.{version_run, report_of, version_report}
+use Rattle.cj_engine.specs.Memories.{base_memory, version_memory}
 use Rattle.cj_engine.specs.Stands.{Stands}
 use Rattle.cj_engine.specs.Machines.{IsEarly}
 use Rattle.cj_engine.specs.Stepping.{CanTake, CanGoBack}
+
+-- A run as callers see it: its program, its state, its looks, and whether a further turn can be made.
+pub record EngineView : Type 0 where
+  pub program : Program
+  pub state : State
+  pub looks : List Look
+  pub running : Bool
 
 -- The state stands for the base run of some call, whose limit is not reached.
 pub record IsUnderWay (P : Program) (codes : Codes) (s : State) : Type 0 where
@@ -43,10 +53,16 @@ pub record IsRun (P : Program) (codes : Codes) (looks : List Look) (call : Begun
   pub within : s.turns ≤ call.limit
   pub limit : call.limit ≤ 1000000
 
--- What a turn of the call's run leaves by its answer: the run goes on in this state, or its report is read off it.
+-- The call's run has ended in this state: its report is read off it, and its memory is that of the base run at its end.
+pub record HasFinished (P : Program) (codes : Codes) (looks : List Look) (call : Begun) (end : End) (s : State) : Type 0 where
+  pub report : version_report P codes looks call ≡ Some (report_of looks end s)
+  pub memory : version_memory P codes looks call ≡ Some s.memory
+  pub agrees : s.memory ≡ base_memory P call s.base_turns
+
+-- what turns of the call's run leave by their answer: the run goes on in this state, or has ended in it
 abbrev pub RunGoes : Program → Codes → List Look → Begun → Turned → State → Type 0
 RunGoes P codes looks call Running s = IsRun P codes looks call s
-RunGoes P codes looks call (Ended end) s = version_report P codes looks call ≡ Some (report_of looks end s)
+RunGoes P codes looks call (Ended end) s = HasFinished P codes looks call end s
 
 -- a base frame whose instruction exists, and all that it names
 pub record BaseReady (P : Program) (fr : Frame) : Type 0 where
@@ -80,3 +96,16 @@ pub record CanTurn (P : Program) (codes : Codes) (s : State) : Type 0 where
 unfoldable pub goes_on : Turned → Bool
 goes_on Running = true
 goes_on (Ended end) = false
+
+-- the end of a run, which is the turn limit where no turn ended it
+unfoldable pub end_after : Turned → End
+end_after Running = TurnLimit
+end_after (Ended end) = end
+
+-- The state stands for the base run of some call, whose limit is so many turns away or more.
+pub record HasRoom (P : Program) (codes : Codes) (count : ℕ) (s : State) : Type 0 where
+  pub call : Begun
+  pub takes : Takes P.functions call.function (length call.args)
+  pub stands : Stands P codes call s
+  pub room : s.turns + count ≤ call.limit
+  pub limit : call.limit ≤ 1000000

@@ -5,7 +5,10 @@ pub mod CodeMaps
 pub mod NoCodes
 pub mod Stands
 pub mod Watching
+pub mod Memories
 pub mod Machines
 pub mod Stepping
 pub mod Engines
 pub mod Walks
+pub mod OneVersion
+pub mod Stretches

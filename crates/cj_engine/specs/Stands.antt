@@ -21,6 +21,7 @@ use Rattle.cj_draft.specs.Sound.{RowWithin}
 use Rattle.cj_calls.specs.Reports.{NotesStand}
 use Rattle.cj_activations.specs.Activations.{VersionFrame, Active, InBase, InVersion, Paused, BaseWaits, VersionWaits}
 use Rattle.cj_engine.specs.Versions.{State, Codes, Progress, Continues, Finishes, Undefined}
+use Rattle.cj_engine.specs.Memories.{base_memory}
 
 -- ---- the base frames of activations
 
@@ -116,9 +117,11 @@ pub record Stands (P : Program) (codes : Codes) (call : Begun) (s : State) : Typ
   pub counts : CountsStand s since row
   pub notes : NotesStand P call s.notes
 
--- A turn ended the run: the base run ended with the last of the state's base turns, with its prints and this end.
+-- A turn ended the run: the base run ended with the last of the state's base turns, with its prints, its memory and
+-- this end.
 pub record HasEnded (P : Program) (call : Begun) (end : End) (s : State) : Type 0 where
   pub run : EndStands P call s.base_turns s.printed end
+  pub memory : s.memory ≡ base_memory P call s.base_turns
   pub notes : NotesStand P call s.notes
   pub bound : s.turns ≤ 45 * (s.base_turns + 1)
   pub no_limit : end ≢ TurnLimit

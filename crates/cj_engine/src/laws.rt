@@ -1,6 +1,6 @@
 //! Laws of versioned runs. The bodies do nothing.
 
-ghost use Rattle.std.specs.Prelude.{◌≡◌, ◌<◌, List, length, Some};
+ghost use Rattle.std.specs.Prelude.{◌≡◌, ◌<◌, List, length, Some, ℤ};
 ghost use Rattle.cj_ir.specs.WellFormed.{IsWellFormed, Takes};
 ghost use Rattle.cj_ir.specs.declared.language.Program.{Program};
 ghost use Rattle.cj_base.specs.declared.machine.End.TheVariants.{TurnLimit};
@@ -10,6 +10,8 @@ ghost use Rattle.cj_calls.specs.declared.report.Report.{Report};
 ghost use Rattle.cj_calls.specs.Reports.{ReportStands, IsWhole};
 ghost use Rattle.cj_engine.specs.Versions.{State, Codes};
 ghost use Rattle.cj_engine.specs.VersionRuns.{report_of, version_report};
+ghost use Rattle.cj_engine.specs.Memories.{version_memory};
+ghost use Rattle.cj_engine.specs.Marks.{run_marks};
 ghost use Rattle.cj_engine.specs.CodeMaps.{SoundCodes, Grows, IsPlainTrail, IsPlainReport};
 ghost use Rattle.cj_engine.specs.Engines.{IsUnderWay, IsRun};
 
@@ -35,6 +37,19 @@ pub fn later_codes_keep_a_run()
 pub fn later_codes_keep_a_report()
     ensures { (P : Program) (codes later : Codes) (looks : List Look) (call : Begun) (r : Report) →
         version_report P codes looks call ≡ Some r → Grows codes later → version_report P later looks call ≡ Some r }
+{}
+
+/// A run that has a report makes the same marks over all codes that have those it had.
+pub fn later_codes_keep_the_marks()
+    ensures { (P : Program) (codes later : Codes) (looks : List Look) (call : Begun) (r : Report) →
+        version_report P codes looks call ≡ Some r → Grows codes later →
+        run_marks P later looks call call.limit ≡ run_marks P codes looks call call.limit }
+{}
+
+/// A call leaves the same memory over all codes that have those it had.
+pub fn later_codes_keep_the_memory()
+    ensures { (P : Program) (codes later : Codes) (looks : List Look) (call : Begun) (memory : List ℤ) →
+        version_memory P codes looks call ≡ Some memory → Grows codes later → version_memory P later looks call ≡ Some memory }
 {}
 
 /// The report of a run that reached its call's limit.

@@ -1,6 +1,6 @@
 //! The state of a run, and how one instruction changes it.
 
-ghost use Rattle.std.specs.Prelude.{◌≡◌, ◌<◌, ◌+◌, [], ◌∷◌, ◌++◌, length, slice_set, IfOk, OnOk};
+ghost use Rattle.std.specs.Prelude.{◌≡◌, ◌<◌, ◌+◌, [], ◌∷◌, ◌++◌, length, slice_set, IfOk, OnOk, OnErr};
 ghost use Rattle.cj_ir.specs.Values.{operand_value, IsOperandWithin, IsExprWithin};
 ghost use Rattle.cj_base.specs.Machine.{op_effect, load_effect, store_effect, branch};
 ghost use Rattle.cj_activations.specs.Changes.{active_regs, HasDest, returned};
@@ -154,6 +154,7 @@ impl Machine {
         ensures running { IfOk result (λ turned. turned ≡ Running) }
         ensures made { OnOk result (state_of self.new ≡ went_on (state_of self.old) next (active_regs self.old.activations.top) self.old.memory
             (operand_value (active_regs self.old.activations.top) value.now ∷ [])) }
+        ensures no_memory { OnErr result (self.new ≡ self.old) }
         ensures looks { self.new.looks ≡ self.old.looks }
     {
         let value = self.value(value);

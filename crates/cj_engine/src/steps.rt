@@ -1,6 +1,6 @@
 //! One instruction of a base frame, and of a version, as far as it asks no watch.
 
-ghost use Rattle.std.specs.Prelude.{◌≡◌, ◌<◌, ◌≤◌, ◌-◌, ◌+◌, length, map, slice_set, [], ℤ, List, All, Some, IfOk, IfErr, OnOk, true, false};
+ghost use Rattle.std.specs.Prelude.{◌≡◌, ◌<◌, ◌≤◌, ◌-◌, ◌+◌, length, map, slice_set, [], ◌∷◌, ◌++◌, ℤ, List, All, Some, IfOk, IfErr, OnOk, OnErr, true, false};
 ghost use Rattle.cj_ir.specs.WellFormed.{IsInstrFine};
 ghost use Rattle.cj_ir.specs.declared.language.Program.{Program};
 ghost use Rattle.cj_base.specs.declared.machine.Frame.{Frame};
@@ -13,6 +13,7 @@ ghost use Rattle.cj_draft.specs.WellNamed.{IsVInstrFine, ArePairsFine, IsPointFi
 ghost use Rattle.cj_draft.specs.Points.{frames_of};
 ghost use Rattle.cj_activations.specs.Activations.{VersionFrame, InBase, InVersion};
 ghost use Rattle.cj_activations.specs.Changes.{active_regs, position_of, with_regs};
+ghost use Rattle.cj_activations.specs.Changes.{rebuilt as frames_rebuilt};
 ghost use Rattle.cj_activations.specs.declared.windows.Position.TheVariants.{Base};
 ghost use Rattle.cj_engine.specs.Versions.{rebuilt, passed, keep_note};
 ghost use Rattle.cj_engine.specs.Machines.{state_of, IsEarly, went_on};
@@ -22,8 +23,8 @@ ghost use Rattle.cj_engine.specs.Stepping.{CanGoBack, IsBaseStep, IsVersionStep,
 use crate::machine::Machine;
 use crate::scratch::Scratch;
 use cj_activations::Activations;
-use cj_base::{End, Frame, Turned, Waitings};
-use cj_calls::Note;
+use cj_base::{End, Turned};
+use cj_calls::{Note, Notes};
 use cj_draft::laws::assignments_are_few;
 use cj_draft::{Pair, Pairs, Point, VInstr};
 use cj_ir::{Edge, FunId, Guard, Guards, Instr, Label, NoMemory, Operands, Reg};
@@ -75,6 +76,7 @@ impl Machine {
         requires fine { (functions : _) × (labels : _) × IsInstrFine functions (length (active_regs self.old.activations.top)) labels instr.now }
         ensures made { IfOk result (λ step. IsBaseStep instr.now scratch.new.values.items (state_of self.old) (state_of self.new) step) }
         ensures looks { IfOk result (λ step. self.new.looks ≡ self.old.looks) }
+        ensures no_memory { OnErr result (self.new ≡ self.old) }
         ensures only_then { IfErr result (λ refused. (fr : Frame) → self.old.activations.top ≡ InBase fr → EffectTakesMemory (effect instr.now fr self.old.memory)) }
     {
         Ok(match instr {
@@ -120,6 +122,7 @@ impl Machine {
         requires fine { (P : Program) × (labels : _) × IsVInstrFine P (length (active_regs self.old.activations.top)) labels instr.now }
         ensures made { IfOk result (λ step. IsVersionStep instr.now scratch.new.values.items (state_of self.old) (state_of self.new) step) }
         ensures looks { IfOk result (λ step. self.new.looks ≡ self.old.looks) }
+        ensures no_memory { OnErr result (self.new ≡ self.old) }
         ensures only_then { IfErr result (λ refused. VersionTakesMemory (version_effect instr.now (active_regs self.old.activations.top) self.old.memory)) }
     {
         Ok(match instr {
@@ -218,6 +221,7 @@ impl Machine {
         ensures made { IfOk result (λ step. (args : List ℤ) →
             IsVersionStep (Assume guards.now back target.now next) args (state_of self.old) (state_of self.new) step) }
         ensures looks { IfOk result (λ step. self.new.looks ≡ self.old.looks) }
+        ensures no_memory { OnErr result (self.new ≡ self.old) }
         ensures only_then { IfErr result (λ refused.
             VersionTakesMemory (version_effect (Assume guards.now back target.now next) (active_regs self.old.activations.top) self.old.memory)) }
     {
@@ -242,38 +246,59 @@ impl Machine {
         Turned::Running
     }
 
-    #[tactic(auto, unfolding(crate::specs::Machines::state_of))]
     // A guard fails: base frames take the version's place, `back` base turns ago, and a note says so.
+    #[tactic(auto, unfolding(crate::specs::Machines::state_of))]
     fn rebuild(&mut self, back: u32, target: &Point) -> Result<(), NoMemory>
         requires early { IsEarly (state_of self.old) }
         requires back { back ≤ self.old.base_turns }
         requires point { (P : Program) × IsPointFine P (length (active_regs self.old.activations.top)) target.now }
         ensures made { OnOk result ((P : Program) → state_of self.new ≡ rebuilt (state_of self.old) back (frames_of P target.now (active_regs self.old.activations.top))) }
-        ensures looks { OnOk result (self.new.looks ≡ self.old.looks) }
+        ensures looks { self.new.looks ≡ self.old.looks }
+        ensures no_memory { OnErr result (self.new ≡ self.old) }
     {
         let (top, waiting) = target.frames(self.activations.top_registers())?;
-        self.activations.rebuild(&top, &waiting)?;
+        let turn = self.base_turns - u64::from(back);
+        let note = Note { turn, top, waiting };
+        take_place(&mut self.activations, &mut self.notes, note)?;
         self.turns += 1;
-        self.base_turns -= u64::from(back);
+        self.base_turns = turn;
         self.fails += 1;
-        self.keep_note(top, waiting)?;
         Ok(())
     }
+}
 
-    // The first 256 notes are kept.
-    #[tactic(auto, unfolding(crate::specs::Versions::keep_note))]
-    fn keep_note(&mut self, top: Frame, waiting: Waitings) -> Result<(), NoMemory>
-        ensures { OnOk result (self.new ≡ record self.old { notes = keep_note self.old.notes (record { turn = self.old.base_turns; top = top; waiting = waiting }) }) }
-    {
-        if self.notes.items().len() < 256 {
-            self.notes.push(Note {
-                turn: self.base_turns,
-                top,
-                waiting,
-            })?;
-        }
-        Ok(())
+// How many notes are kept: the first ones of a run.
+const NOTES_KEPT: usize = 256;
+
+// A note's frames take the place of the top, and the note is kept if it is among the first.
+#[tactic(auto, unfolding(crate::specs::Versions::keep_note))]
+fn take_place(activations: &mut Activations, notes: &mut Notes, note: Note) -> Result<(), NoMemory>
+    ensures activations { OnOk result (activations.new ≡ frames_rebuilt activations.old note.top note.waiting) }
+    ensures notes { OnOk result (notes.new ≡ keep_note notes.old note) }
+    ensures no_memory { OnErr result ((activations.new ≡ activations.old) × (notes.new ≡ notes.old)) }
+{
+    if notes.items().len() < NOTES_KEPT {
+        keep(activations, notes, note)?;
+    } else {
+        activations.rebuild(&note.top, &note.waiting)?;
     }
+    Ok(())
+}
+
+// A note's frames take the place of the top, and the note is kept.
+fn keep(activations: &mut Activations, notes: &mut Notes, note: Note) -> Result<(), NoMemory>
+    ensures activations { OnOk result (activations.new ≡ frames_rebuilt activations.old note.top note.waiting) }
+    ensures notes { OnOk result (notes.new ≡ notes.old ++ note ∷ []) }
+    ensures no_memory { OnErr result ((activations.new ≡ activations.old) × (notes.new ≡ notes.old)) }
+{
+    let last = notes.items().len();
+    notes.push(note)?;
+    let kept = &notes.items()[last];
+    if activations.rebuild(&kept.top, &kept.waiting).is_err() {
+        let _refused = notes.pop();
+        return Err(NoMemory);
+    }
+    Ok(())
 }
 
 // Writes the values to the destinations.

@@ -2,7 +2,6 @@
 
 ghost use Rattle.std.specs.Prelude.{◌≡◌, ◌≤◌, true, length, ⊤, IfOk, None};
 ghost use Rattle.cj_ir.specs.WellFormed.{Takes};
-ghost use Rattle.cj_engine.specs.Machines.{state_of};
 ghost use Rattle.cj_engine.specs.CodeMaps.{no_codes};
 ghost use Rattle.cj_engine.specs.NoCodes.{no_codes_sound};
 ghost use Rattle.cj_engine.specs.Walks.{Walks};
@@ -90,7 +89,7 @@ fn load(next: u32) -> Instr {
     }
 }
 
-fn named(rt: &impl Abort, alloc: Global, name: &str) -> Result<Name, Fail> {
+pub(crate) fn named(rt: &impl Abort, alloc: Global, name: &str) -> Result<Name, Fail> {
     Ok(Name::of(alloc, name.as_bytes())?.expect(rt, "a name"))
 }
 
@@ -127,7 +126,7 @@ fn program(rt: &impl Abort, alloc: Global) -> Result<Checked, Fail> {
 }
 
 // A call of main, which has one parameter.
-fn call_of(alloc: Global, argument: i64, limit: u32) -> Result<ScriptCall, Fail> {
+pub(crate) fn call_of(alloc: Global, argument: i64, limit: u32) -> Result<ScriptCall, Fail> {
     let mut args = Values::new(alloc);
     args.push(argument)?;
     Ok(ScriptCall {
@@ -138,7 +137,7 @@ fn call_of(alloc: Global, argument: i64, limit: u32) -> Result<ScriptCall, Fail>
     })
 }
 
-fn takes(program: &Program, function: FunId, count: usize) -> bool
+pub(crate) fn takes(program: &Program, function: FunId, count: usize) -> bool
     ensures { result ≡ true → Takes program.now.functions function count }
 {
     match program.functions.items().get(function.0 as usize) {
@@ -147,7 +146,7 @@ fn takes(program: &Program, function: FunId, count: usize) -> bool
     }
 }
 
-fn is_limit(limit: u32) -> bool
+pub(crate) fn is_limit(limit: u32) -> bool
     ensures { result ≡ true → (1 ≤ limit) × (limit ≤ 1000000) }
 {
     1 <= limit && limit <= 1_000_000
@@ -164,14 +163,14 @@ fn started<'p>(
     requires takes { Takes checked.now.functions call.now.function (length call.now.args) }
     requires limit { (1 ≤ call.now.limit) × (call.now.limit ≤ 1000000) }
     requires program { watch.old.checked.now ≡ checked.now }
-    ensures walks { IfOk result (λ engine. Walks checked.now engine.machine.looks call.now.limit (state_of engine.machine)) }
-    ensures checked { IfOk result (λ engine. engine.checked.now ≡ checked.now) }
+    ensures walks { IfOk result (λ engine. Walks checked.now engine.looks call.now.limit engine.state) }
+    ensures checked { IfOk result (λ engine. engine.program ≡ checked.now) }
     ensures program { watch.new.checked.now ≡ checked.now }
 {
     let mut memory = Values::new(alloc);
     memory.push(8)?;
     memory.push(9)?;
-    let engine = Engine::start_with(alloc, checked, call, memory, watch)?;
+    let engine = Engine::start_from(alloc, checked, call, memory, watch)?;
     Ok(engine)
 }
 
@@ -182,10 +181,10 @@ fn turned(
     limit: u32,
     watch: &mut Bodies<'_>,
 ) -> Result<Option<End>, NoMemory>
-    requires program { watch.old.checked.now ≡ engine.old.checked.now }
-    requires walks { Walks engine.old.checked.now engine.old.machine.looks limit (state_of engine.old.machine) }
-    ensures walks { IfOk result (λ end. end ≡ None → Walks engine.new.checked.now engine.new.machine.looks limit (state_of engine.new.machine)) }
-    ensures checked { engine.new.checked ≡ engine.old.checked }
+    requires program { watch.old.checked.now ≡ engine.old.program }
+    requires walks { Walks engine.old.program engine.old.looks limit engine.old.state }
+    ensures walks { IfOk result (λ end. end ≡ None → Walks engine.new.program engine.new.looks limit engine.new.state) }
+    ensures checked { engine.new.program ≡ engine.old.program }
     ensures program { watch.new.checked.now ≡ watch.old.checked.now }
 {
     assert!(rt; engine.running());
@@ -221,10 +220,10 @@ fn goes_to(
     printed: &[i64],
     turns: u64,
 ) -> Result<(), Fail>
-    requires program { watch.old.checked.now ≡ engine.old.checked.now }
-    requires walks { Walks engine.old.checked.now engine.old.machine.looks limit (state_of engine.old.machine) }
-    ensures walks { IfOk result (λ done. Walks engine.new.checked.now engine.new.machine.looks limit (state_of engine.new.machine)) }
-    ensures program { IfOk result (λ done. watch.new.checked.now ≡ engine.new.checked.now) }
+    requires program { watch.old.checked.now ≡ engine.old.program }
+    requires walks { Walks engine.old.program engine.old.looks limit engine.old.state }
+    ensures walks { IfOk result (λ done. Walks engine.new.program engine.new.looks limit engine.new.state) }
+    ensures program { IfOk result (λ done. watch.new.checked.now ≡ engine.new.program) }
 {
     assert!(rt; turned(rt, engine, limit, watch)?.is_none());
     assert!(rt; is_at(engine, &[1, 9], printed, turns, true));
@@ -239,8 +238,8 @@ fn returns(
     watch: &mut Bodies<'_>,
     want: i64,
 ) -> Result<(), Fail>
-    requires program { watch.old.checked.now ≡ engine.old.checked.now }
-    requires walks { Walks engine.old.checked.now engine.old.machine.looks limit (state_of engine.old.machine) }
+    requires program { watch.old.checked.now ≡ engine.old.program }
+    requires walks { Walks engine.old.program engine.old.looks limit engine.old.state }
 {
     let end = turned(rt, engine, limit, watch)?;
     assert!(rt; matches!(end, Some(End::Returned(value)) if value == want));
@@ -254,8 +253,8 @@ fn three_turns(
     limit: u32,
     watch: &mut Bodies<'_>,
 ) -> Result<(), Fail>
-    requires program { watch.old.checked.now ≡ engine.old.checked.now }
-    requires walks { Walks engine.old.checked.now engine.old.machine.looks limit (state_of engine.old.machine) }
+    requires program { watch.old.checked.now ≡ engine.old.program }
+    requires walks { Walks engine.old.program engine.old.looks limit engine.old.state }
 {
     assert!(rt; is_at(engine, &[1, 0], &[], 0, true));
     goes_to(rt, engine, limit, watch, &[], 1)?;

@@ -7,7 +7,7 @@ ghost use Rattle.cj_calls.specs.declared.report.Look.{Look};
 ghost use Rattle.cj_engine.specs.Versions.{Codes};
 ghost use Rattle.cj_engine.specs.Marks.{Mark, Entered, Branched, FailedIn};
 ghost use Rattle.cj_engine.specs.CodeMaps.{SoundCodes, Grows};
-ghost use Rattle.cj_engine.specs.Watching.{IsBranch};
+ghost use Rattle.cj_engine.specs.Watching.{IsBranch, TellsAtMost};
 
 use cj_draft::Version;
 use cj_ir::{Edge, FunId, Label, NoMemory};
@@ -38,13 +38,14 @@ pub trait Watch {
     /// The offset of the version of the function that is entered with these arguments, or 0 for its base body. There
     /// are as many arguments as the function has parameters.
     ///
-    /// After want of memory the trail and the marks may have the one entry more.
+    /// After want of memory the trail and the marks are as before, or have the one entry more.
     fn enter(&mut self, f: FunId, args: &[i64]) -> Result<u64, NoMemory>
         requires ready { ready self.old }
         requires takes { Takes (program self.old).functions f (length args.now) }
         ensures looked { IfOk result (λ offset. trail self.new ≡ trail self.old ++ record { function = f; offset = offset } ∷ []) }
         ensures found { IfOk result (λ offset. offset ≢ 0 → IsSome (codes self.new f offset)) }
         ensures went { IfOk result (λ offset. went self.old self.new (Entered f args.now ∷ [])) }
+        ensures no_memory { OnErr result (TellsAtMost (went self.old self.new) (trail self.old) (trail self.new) (Entered f args.now ∷ [])) }
         ensures grows { Grows (codes self.old) (codes self.new) }
         ensures same { program self.new ≡ program self.old }
         ensures stays { stays self.old self.new }

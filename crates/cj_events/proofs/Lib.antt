@@ -11,3 +11,4 @@ mod PassReads
 mod EventReads
 mod FineEvents
 mod ReplayReads
+mod Playing

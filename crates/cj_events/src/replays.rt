@@ -7,6 +7,7 @@ ghost use Rattle.cj_tokens.specs.declared.terminal.Terminal.TheVariants.{End};
 ghost use Rattle.cj_grammar.specs.Grammar.{Tree, leaves, IsSentence};
 ghost use Rattle.cj_grammar.specs.Readers.{Gives, reads};
 ghost use Rattle.cj_events.specs.Fitting.{FitsEvents};
+ghost use Rattle.cj_events.specs.Playable.{CanPlay};
 ghost use Rattle.cj_events.specs.Meaning.{history_offences, history_of};
 ghost use Rattle.cj_events.specs.Reading.{history_at};
 ghost use Rattle.cj_grammar.specs.Sentences.{Agrees};
@@ -69,15 +70,16 @@ fn read_replay(alloc: Global, tokens: &mut Tokens<'_>) -> Result<(Checked, Event
 ///
 /// All that the events name exists: each function, with as many arguments as it has parameters; each run that makes
 /// steps has begun before. There are at most 256 beginnings and 256 compilations; their limits, and the step counts,
-/// come to at most 4,000,000 each.
+/// come to at most 4,000,000 each. So the events can be played.
 ///
 /// Refused: exactly where the bytes are no replay, with the line and the kind of their first offence. First come the
 /// characters, the numbers and the syntax: the first token with which the tokens so far begin no replay. Where there
 /// is no such token, it is the first token, from the left, that offends otherwise, and the highest of its offences.
-#[tactic(auto, using(crate::proofs::ReplayReads::replay_meant, crate::proofs::ReplayReads::replay_offended, crate::proofs::ReplayReads::replay_only, crate::proofs::ReplayReads::replay_first))]
+#[tactic(auto, using(crate::proofs::ReplayReads::replay_meant, crate::proofs::ReplayReads::replay_offended, crate::proofs::ReplayReads::replay_only, crate::proofs::ReplayReads::replay_first, crate::proofs::Playing::fits_play))]
 pub fn parse_replay(alloc: Global, bytes: &[u8]) -> Result<(Checked, Events), ParseError>
     ensures input { IfOk result (λ replay. ReadsReplay bytes.now (Ok replay)) }
     ensures fits { IfOk result (λ replay. FitsEvents replay.0 replay.1) }
+    ensures playable { IfOk result (λ replay. CanPlay replay.0 replay.1) }
     ensures refused { IfErr result (IsReplayError bytes.now) }
     ensures only { IsOnlyReplay bytes.now result }
 {

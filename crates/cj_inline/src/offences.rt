@@ -6,17 +6,9 @@ ghost use Rattle.cj_draft.specs.declared.code.Code.{Code};
 ghost use Rattle.cj_draft.specs.WellNamed.{IsPointFine, WellNamed};
 ghost use Rattle.cj_inline.specs.Inlining.{greatest_of, target_frames, back_frames, place_frames, most_frames, called_by, called, called_at, full_offence, room_offence, callee_offence, inline_offence};
 
+use cj_draft::limits::{MAX_CODE_LABELS, MAX_CODE_REGS, MAX_FRAMES};
 use cj_draft::{Back, Code, Draft, Facts, Place, Room, Skipped, VInstr};
 use cj_ir::{FunId, Label};
-
-/// Registers of a draft, at most.
-const MAX_REGISTERS: u32 = 128;
-
-/// Labels of a draft, at most.
-const MAX_LABELS: u32 = 512;
-
-/// Frames of a point, at most.
-const MAX_FRAMES: u32 = 4;
 
 /// The function that the draft calls at a label, where a run may come to it. What is inlined there is a draft of it.
 ///
@@ -90,13 +82,13 @@ fn room_offence(frames: u32, regs: u32, labels: u32) -> Option<Skipped>
     if frames > MAX_FRAMES {
         return Some(Skipped::Deep { frames });
     }
-    if regs > MAX_REGISTERS {
+    if regs > MAX_CODE_REGS {
         return Some(Skipped::Full {
             room: Room::Registers,
             count: regs,
         });
     }
-    if labels > MAX_LABELS {
+    if labels > MAX_CODE_LABELS {
         return Some(Skipped::Full {
             room: Room::Labels,
             count: labels,

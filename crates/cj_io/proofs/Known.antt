@@ -1,7 +1,9 @@
 -- What several reads or writes in a row did to known bytes.
 use Rattle.std.proofs.Common.{◌≡◌, ◌∙◌, sym, ap, refl, ℕ, zero, suc, ◌+◌, ◌≤◌, List, [], ◌∷◌, ◌++◌, ◌-◌, length, take, drop, Option, Some, None, append_assoc, arith}
 use Rattle.std.proofs.lemmas.List.{take-append-drop, take-append-le, take_all, length-drop, length-take-le, drop-drop}
-use Rattle.std.specs.Io.KnownBytes.{Appends}
+use Rattle.std.specs.Io.KnownBytes.{Appends, Consumes}
+use Rattle.std.proofs.KnownBytes.{Consumes-trans}
+use Rattle.cj_io.specs.Reading.{HasTaken}
 
 pub Appends-more : (old mid new : Option (List ℕ)) (xs ys zs : List ℕ) → Appends old mid xs → Appends mid new ys → zs ≡ xs ++ ys → Appends old new zs
 Appends-more None mid new xs ys zs before after is = tt
@@ -37,3 +39,7 @@ piece-read xs mid buf at n within is =
     let front : take n (mid ++ drop n buf) ≡ mid = take-append-le n mid (drop n buf) (omega (arith, long)) ∙ take_all n mid (omega (arith, long)) in
     let behind : drop (at + n) xs ≡ drop n rest = sym (drop-drop n at xs) in
     sym (ap (λ f. f ++ drop (at + n) xs) (front ∙ same) ∙ ap (λ d. take n rest ++ d) behind ∙ take-append-drop n rest)
+
+-- what was taken, and then some more
+pub taken_more : (given mid left : Option (List ℕ)) (taken more : List ℕ) → Consumes given mid taken → Consumes mid left more → HasTaken given left
+taken_more given mid left taken more first second = (taken ++ more, Consumes-trans given mid left taken more first second)

@@ -21,8 +21,9 @@ GaveMore None left limit = ⊤
 GaveMore (Some given) None limit = ⊥
 GaveMore (Some given) (Some left) limit = limit + length left < length given
 
--- Why not all bytes were read, with the bytes and the counts of faults before and after; want of memory may come at any time.
+-- Why not all bytes were read, with the bytes and the counts of faults before and after. A read fault alone raises the
+-- count; want of memory may come at any time.
 abbrev pub HasReadCause : (given left : Option (List ℕ)) (limit before now : ℕ) → ReadError → Type 0
 HasReadCause given left limit before now ReadFault = Rose before now × GaveAtMost given left limit
-HasReadCause given left limit before now (TooLong named) = (named ≡ limit) × GaveMore given left limit
-HasReadCause given left limit before now NoMemory = ⊤
+HasReadCause given left limit before now (TooLong named) = (named ≡ limit) × GaveMore given left limit × (now ≡ before)
+HasReadCause given left limit before now NoMemory = now ≡ before

@@ -1,69 +1,87 @@
-//! The standard input and output of the process, as a source and a sink. They tell nothing of bytes.
+//! Readers and writers of the standard library as a source and a sink, and so the standard input and output of the
+//! process. Those two tell nothing of their bytes; what is proved of any reader and writer that tells them holds of these.
 
-ghost use Rattle.std.specs.Prelude.{◌≡◌, ◌≤◌, ◌<◌, ℕ, None, length, take, IfOk, OnErr};
+ghost use Rattle.std.specs.Prelude.{◌≡◌, ◌≤◌, ◌<◌, length, take, IfOk, OnErr};
 ghost use Rattle.std.specs.Io.KnownBytes.{Consumes, Appends, Keeps, IsAtEnd};
-ghost use Rattle.cj_io.specs.Faults.{HasCause};
+ghost use Rattle.cj_io.specs.Faults.{Counts};
 
 use crate::streams::{Failed, Sink, Source};
 use std::io::{ErrorKind, Read, Stdin, Stdout, Write};
 
-/// The standard input.
+/// A reader as a source. It tells the bytes that the reader tells.
 #[derive(Debug, Drop)]
-pub struct StdSource {
-    stdin: Stdin,
+pub struct ReaderSource<R> {
+    reader: R,
     faults: u64,
 }
 
-impl StdSource {
-    pub fn new(stdin: Stdin) -> StdSource
-        ensures { ⟦<StdSource as Source>⟧.faults result ≡ 0 }
+/// The standard input.
+pub type StdSource = ReaderSource<Stdin>;
+
+impl<R: Read> ReaderSource<R> {
+    pub fn new(reader: R) -> ReaderSource<R>
+        ensures left { ⟦<ReaderSource<R> as Source>⟧.left result ≡ R.remaining reader }
+        ensures faults { ⟦<ReaderSource<R> as Source>⟧.faults result ≡ 0 }
     {
-        StdSource { stdin, faults: 0 }
+        ReaderSource { reader, faults: 0 }
     }
 }
 
-impl Source for StdSource {
-    ghost left = { λ _. None };
+impl<R: Read> Source for ReaderSource<R> {
+    ghost left = { λ s. R.remaining s.reader };
 
     ghost faults = { λ s. s.faults };
 
     fn read(&mut self, buf: &mut [u8]) -> Result<usize, Failed> {
-        let answer = read_some(&mut self.stdin, buf);
+        let answer = read_some(&mut self.reader, buf);
         self.faults = counted(self.faults, answer);
         answer
     }
 }
 
-/// The standard output, which is flushed after each write.
+/// A writer as a sink. It tells the bytes that the writer tells.
 #[derive(Debug, Drop)]
-pub struct StdSink {
-    stdout: Stdout,
+pub struct WriterSink<W> {
+    writer: W,
     faults: u64,
 }
 
-impl StdSink {
-    pub fn new(stdout: Stdout) -> StdSink
-        ensures { ⟦<StdSink as Sink>⟧.faults result ≡ 0 }
+/// The standard output.
+pub type StdSink = WriterSink<Stdout>;
+
+impl<W: Write> WriterSink<W> {
+    pub fn new(writer: W) -> WriterSink<W>
+        ensures written { ⟦<WriterSink<W> as Sink>⟧.written result ≡ W.contents writer }
+        ensures faults { ⟦<WriterSink<W> as Sink>⟧.faults result ≡ 0 }
     {
-        StdSink { stdout, faults: 0 }
+        WriterSink { writer, faults: 0 }
     }
 }
 
-impl Sink for StdSink {
-    ghost written = { λ _. None };
+impl<W: Write> Sink for WriterSink<W> {
+    ghost written = { λ s. W.contents s.writer };
 
     ghost faults = { λ s. s.faults };
 
     fn write(&mut self, bytes: &[u8]) -> Result<usize, Failed> {
-        let answer = write_some(&mut self.stdout, bytes);
+        let answer = write_some(&mut self.writer, bytes);
+        self.faults = counted(self.faults, answer);
+        answer
+    }
+
+    fn flush(&mut self) -> Result<(), Failed> {
+        let answer = match self.writer.flush() {
+            Ok(()) => Ok(()),
+            Err(_) => Err(Failed),
+        };
         self.faults = counted(self.faults, answer);
         answer
     }
 }
 
 // The count of faults after a call with that answer.
-fn counted(faults: u64, answer: Result<usize, Failed>) -> u64
-    ensures { HasCause faults result answer }
+fn counted<T: Drop>(faults: u64, answer: Result<T, Failed>) -> u64
+    ensures { Counts faults result answer }
 {
     match answer {
         Ok(_) => faults,
@@ -88,22 +106,17 @@ fn read_some<R: Read>(reader: &mut R, buf: &mut [u8]) -> Result<usize, Failed>
     Err(Failed)
 }
 
-// One write and its flush; a writer that takes nothing has failed. Where the flush fails, what was written stands.
+// One write, which is made again where a signal interrupts it. A writer that takes nothing has failed.
 fn write_some<W: Write>(writer: &mut W, bytes: &[u8]) -> Result<usize, Failed>
     ensures some { IfOk result (λ count. 0 < count) }
     ensures bound { IfOk result (λ count. count ≤ length bytes.now) }
     ensures bytes { IfOk result (λ count. Appends (W.contents writer.old) (W.contents writer.new) (take count bytes.now)) }
-    ensures part { OnErr result ((count : ℕ) × Appends (W.contents writer.old) (W.contents writer.new) (take count bytes.now)) }
+    ensures kept { OnErr result (Keeps (W.contents writer.old) (W.contents writer.new)) }
 {
     for _ in 0..u64::MAX {
         match writer.write(bytes) {
             Ok(0) => return Err(Failed),
-            Ok(count) => {
-                return match writer.flush() {
-                    Ok(()) => Ok(count),
-                    Err(_) => Err(Failed),
-                };
-            }
+            Ok(count) => return Ok(count),
             Err(error) if error.kind() == ErrorKind::Interrupted => {}
             Err(_) => return Err(Failed),
         }
@@ -167,20 +180,23 @@ mod tests {
             (3, Some(9), true, Ok(4), Ok(4)),
             (3, None, true, Err(Failed), Err(Failed)),
             (0, Some(0), true, Ok(0), Err(Failed)),
-            (0, Some(2), false, Ok(2), Err(Failed)),
+            (0, Some(2), false, Ok(2), Ok(2)),
         ] {
-            let mut reader = Device {
+            let device = Device {
                 interrupts,
                 moves,
                 flushes,
             };
-            assert_eq!(rt; read_some(&mut reader, &mut [0; 4]), reads);
-            let mut writer = Device {
+            let mut source = ReaderSource::new(device);
+            assert_eq!(rt; source.read(&mut [0; 4]), reads);
+            let device = Device {
                 interrupts,
                 moves,
                 flushes,
             };
-            assert_eq!(rt; write_some(&mut writer, &[1, 2, 3, 4]), writes);
+            let mut sink = WriterSink::new(device);
+            assert_eq!(rt; sink.write(&[1, 2, 3, 4]), writes);
+            assert_eq!(rt; sink.flush().is_ok(), flushes);
         }
     }
 
@@ -190,6 +206,7 @@ mod tests {
         assert_eq!(rt; source.read(&mut [])?, 0);
         let mut sink = StdSink::new(rt.stdout());
         assert!(rt; sink.write("written\n".as_bytes())? > 0);
+        sink.flush()?;
         Ok(())
     }
 }

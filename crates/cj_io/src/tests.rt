@@ -1,6 +1,9 @@
 ghost use Rattle.std.specs.Prelude.{◌<◌};
 
-use crate::{Failed, MemSink, MemSource, ReadError, Source, WriteFault, read_all, write_whole};
+use crate::{
+    Failed, Gate, MemSink, MemSource, OpenGate, ReadError, Source, WriteFault, read_all,
+    write_whole,
+};
 use std::alloc::{AllocError, Global};
 use std::test::Fail;
 
@@ -78,4 +81,16 @@ fn errors_say_what_came(rt: HostRuntime) -> Result<(), Fail> {
     let part = format!(in rt.alloc(); "{}", WriteFault { written: 7 })?;
     assert_eq!(rt; part.as_str(), "the sink failed after 7 bytes");
     Ok(())
+}
+
+// A gate is called from several threads.
+fn pass<G: Gate + Sync>(gate: &G) {
+    gate.before_call(1);
+    gate.idle();
+    gate.after_call(1);
+}
+
+#[test]
+fn the_open_gate_holds_nobody_back(_rt: HostRuntime) {
+    pass(&OpenGate);
 }

@@ -147,6 +147,7 @@ pub struct Program {
 
 impl Program {
     /// The function of that number.
+    #[inline]
     pub fn function(&self, id: FunId) -> &Function
         requires { id.0 < length self.now.functions }
         ensures { function_at self.now id ≡ Some result.now }
@@ -155,6 +156,7 @@ impl Program {
     }
 
     /// The line at that label of a function.
+    #[inline]
     pub fn line(&self, id: FunId, label: Label) -> &Line
         requires { label.0 < label_count self.now id }
         ensures { line_at self.now id label ≡ Some result.now }

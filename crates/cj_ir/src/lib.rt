@@ -21,6 +21,6 @@ pub use language::{
 };
 pub use memory::NoMemory;
 pub use script::{Input, Script, ScriptCall, ScriptCalls, Setup, Setups};
-pub use sequence::Sequence;
+pub use sequence::{Sequence, zeros};
 pub use texts::{Name, Text};
 pub use values::{eval, operand_values};

@@ -56,6 +56,18 @@ pub struct Input {
     pub script: Script,
 }
 
+impl Duplicate for ScriptCall {
+    fn copy(&self) -> Result<ScriptCall, NoMemory> {
+        let args = self.args.copy()?;
+        Ok(ScriptCall {
+            function: self.function,
+            args,
+            cells: self.cells,
+            limit: self.limit,
+        })
+    }
+}
+
 impl Duplicate for Setup {
     fn copy(&self) -> Result<Setup, NoMemory> {
         Ok(*self)

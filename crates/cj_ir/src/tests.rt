@@ -192,6 +192,13 @@ fn lists_grow_and_are_copied(rt: HostRuntime) -> Result<(), Fail> {
     assert_eq!(rt; values.items(), [4, 7, 8, 9].as_slice());
     assert_eq!(rt; values.pop(), Some(9));
     assert_eq!(rt; twin.items(), [6, 7, 8].as_slice());
+    let call = ScriptCall {
+        function: FunId(1),
+        args: twin,
+        cells: 64,
+        limit: 100,
+    };
+    assert_eq!(rt; call.copy()?.args.items(), [6, 7, 8].as_slice());
     Ok(())
 }
 

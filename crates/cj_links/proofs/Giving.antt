@@ -10,7 +10,7 @@ use Rattle.cj_ir.specs.declared.language.Label.{Label}
 use Rattle.cj_ir.proofs.Members.{contains-none}
 use Rattle.cj_links.specs.declared.edges.EdgeId.{EdgeId}
 use Rattle.cj_links.specs.declared.edges.Node.{Node}
-use Rattle.cj_links.specs.EdgeTable.{edge_table, label_of, end_of, edges_into, lists_into, IsBetween, IsWoven}
+use Rattle.cj_links.specs.EdgeTable.{edge_table, label_of, end_of, edges_into, lists_into, IsInto, IsWoven}
 use Rattle.cj_links.specs.Threads.{node, Chain, nodes_of, IsThreaded}
 use Rattle.cj_links.proofs.Members.{once-nil}
 
@@ -28,9 +28,9 @@ list_none labels n = ⊎_elim
     (λ outside. get_or_past (lists_into labels []) n [] (let h = length_into labels [] in omega arith))
     (cases_lt n labels)
 
-pub none_woven : (labels : ℕ) (edges : List (Label × Label)) → All (IsBetween labels) edges → IsWoven (edge_table edges (lists_into labels []))
-none_woven labels edges between = record {
-  between = subst (λ n. All (IsBetween n) edges) (sym (length_into labels [])) between;
+pub none_woven : (labels : ℕ) (edges : List (Label × Label)) → All (IsInto labels) edges → IsWoven (edge_table edges (lists_into labels []))
+none_woven labels edges into = record {
+  into = subst (λ n. All (IsInto n) edges) (sym (length_into labels [])) into;
   edges_in = λ label. subst (λ xs. All (λ (edge : EdgeId). edge.0 < length edges) xs) (sym (list_none labels label.0)) (All-nil (λ (edge : EdgeId). edge.0 < length edges));
   ends = λ label. subst (λ xs. All (λ (edge : EdgeId). end_of (edge_table edges (lists_into labels [])) edge ≡ label) xs) (sym (list_none labels label.0)) (All-nil (λ (edge : EdgeId). end_of (edge_table edges (lists_into labels [])) edge ≡ label));
   once = λ label. subst (λ xs. AllPairs (λ (one other : EdgeId). one ≢ other) xs) (sym (list_none labels label.0)) once-nil;
@@ -39,8 +39,8 @@ none_woven labels edges between = record {
 alone : (count n : ℕ) → n < count → get_or (map (λ at. node at at) (range_with_len 0 count)) n (node 0 0) ≡ node n n
 alone count n within = get_or-map-range_with_len (λ (at : ℕ). node at at) 0 count n n (node 0 0) within (omega arith)
 
-pub none_threaded : (labels : ℕ) (edges : List (Label × Label)) → All (IsBetween labels) edges → length edges < 2 ^ 32 → IsThreaded labels (map (λ at. node at at) (range_with_len 0 (labels + length edges))) (replicate labels 0) edges (lists_into labels [])
-none_threaded labels edges between few = record {
+pub none_threaded : (labels : ℕ) (edges : List (Label × Label)) → All (IsInto labels) edges → length edges < 2 ^ 32 → IsThreaded labels (map (λ at. node at at) (range_with_len 0 (labels + length edges))) (replicate labels 0) edges (lists_into labels [])
+none_threaded labels edges into few = record {
   lists_of = length_into labels [];
   counts_of = length-replicate labels 0;
   nodes_for = length-map-range_with_len (λ (at : ℕ). node at at) 0 (labels + length edges);
@@ -50,7 +50,7 @@ none_threaded labels edges between few = record {
     ap (λ (v : Node). v.after) (alone (labels + length edges) n (omega arith)),
     ap (λ (v : Node). v.before) (alone (labels + length edges) n (omega arith)),
   );
-  woven = none_woven labels edges between;
+  woven = none_woven labels edges into;
 }
 
 -- ---- one linked more

@@ -4,3 +4,4 @@ pub mod Members
 pub mod Chains
 pub mod Threading
 pub mod Giving
+pub mod UseLemmas

@@ -10,7 +10,7 @@ use Rattle.cj_ir.specs.declared.language.Label.{Label}
 use Rattle.cj_ir.proofs.Members.{contains-none, contains-one, contains-head, contains-tail, contains-cases, all-from_contains}
 use Rattle.cj_links.specs.declared.edges.EdgeId.{EdgeId}
 use Rattle.cj_links.specs.declared.edges.Node.{Node}
-use Rattle.cj_links.specs.EdgeTable.{EdgeTable, edge_table, label_of, edge_of, end_of, without, IsLinked, IsBetween, unlinked, linked, led_to, IsWoven}
+use Rattle.cj_links.specs.EdgeTable.{EdgeTable, edge_table, label_of, edge_of, end_of, without, IsLinked, IsInto, unlinked, linked, led_to, IsWoven}
 use Rattle.cj_links.specs.Threads.{after_of, before_of, lead, Chain, nodes_of, edge_at, walk, walks, table_of, IsThreaded}
 use Rattle.cj_links.proofs.Members.{same_edge, nodes-contain, node-edge, nodes-listed, nodes-apart, without-contains, without-gone, without-once, without-count, few_edges, append-once, nodes-without, nodes-append}
 use Rattle.cj_links.proofs.Chains.{length-lead, chain_lead, chain_last, chain_before, chain_first, chain_after, cut, lead_both, join}
@@ -26,7 +26,7 @@ module _ (edges : List (Label × Label)) (lists : List (List EdgeId)) (w : IsWov
   -- a list may be replaced by one of edges that lead to its label, each once
   pub woven_set : (n : ℕ) (list : List EdgeId) → n < length lists → All (λ edge. edge.0 < length edges) list → All (λ edge. end_of (edge_table edges lists) edge ≡ label_of n) list → AllPairs (λ one other. one ≢ other) list → IsWoven (edge_table edges (slice_set lists n list))
   woven_set n list within edges_in ends once = record {
-    between = subst (λ m. All (IsBetween m) edges) (sym (length-set lists n list)) w.between;
+    into = subst (λ m. All (IsInto m) edges) (sym (length-set lists n list)) w.into;
     edges_in = λ label. at label (λ l xs. All (λ edge. edge.0 < length edges) xs) edges_in (w.edges_in label);
     ends = λ label. at label (λ l xs. All (λ edge. end_of (edge_table edges lists) edge ≡ l) xs) ends (w.ends label);
     once = λ label. at label (λ l xs. AllPairs (λ one other. one ≢ other) xs) once (w.once label);
@@ -238,9 +238,8 @@ module _ (labels : ℕ) (nodes : List Node) (counts : List ℕ) (edges : List (L
       let edges' = slice_set edges e.0 edge in
       let size = length-set edges e.0 edge in
       let none = label_of 0 in
-      let here : IsBetween (length lists) (edge_of table e) = t.woven.between e.0 (none, none) e_in in
       let labels' : length lists ≡ labels = t.lists_of in
-      let between : IsBetween (length lists) edge = (here.0, omega arith) in
+      let into : IsInto (length lists) edge = omega arith in
       record {
         lists_of = t.lists_of;
         counts_of = t.counts_of;
@@ -249,7 +248,7 @@ module _ (labels : ℕ) (nodes : List Node) (counts : List ℕ) (edges : List (L
         counted = t.counted;
         chained = t.chained;
         woven = record {
-          between = All-set (IsBetween (length lists)) edges e.0 edge between t.woven.between;
+          into = All-set (IsInto (length lists)) edges e.0 edge into t.woven.into;
           edges_in = λ l. subst (λ n. All (λ (edge : EdgeId). edge.0 < n) (get_or lists l.0 [])) (sym size) (t.woven.edges_in l);
           ends = λ l. all-from_contains (λ (y : EdgeId). end_of (edge_table edges' lists) y ≡ l) (get_or lists l.0 []) (λ y c.
               let other : y.0 ≢ e.0 = λ same. free (linked_if l e (subst (Contains (get_or lists l.0 [])) (same_edge y e same) c)) in
@@ -332,17 +331,16 @@ module _ (nodes : List Node) (counts : List ℕ) (edges : List (Label × Label))
       seen (length counts) (lead nodes (before_of nodes at) (after_of nodes at)) (slice_set counts to (get_or counts to 0 - 1)) edges (unlinked now e).lists
       (threaded_out (length counts) nodes counts edges now.lists t to e (end_within linked) linked)
 
-  -- both ends of an edge are labels
-  pub between_labels : e.0 < length edges → (end_of (table_of nodes counts edges) e).0 < length counts
-  between_labels within =
-      let here : IsBetween (length now.lists) (edge_of now e) = t.woven.between e.0 (label_of 0, label_of 0) within in
-      let h : to < length now.lists = here.1 in
+  -- an edge leads to a label
+  pub into_labels : e.0 < length edges → (end_of (table_of nodes counts edges) e).0 < length counts
+  into_labels within =
+      let h : to < length now.lists = t.woven.into e.0 (label_of 0, label_of 0) within in
       omega (arith, t.lists_of)
 
   pub link_seen : e.0 < length edges → (IsLinked (table_of nodes counts edges) e → ⊥) → Seen (lead (lead nodes (before_of nodes (end_of (table_of nodes counts edges) e).0) (length counts + e.0)) (length counts + e.0) (end_of (table_of nodes counts edges) e).0) (slice_set counts (end_of (table_of nodes counts edges) e).0 (get_or counts (end_of (table_of nodes counts edges) e).0 0 + 1)) edges (linked (table_of nodes counts edges) e)
   link_seen within free =
       seen (length counts) (lead_both nodes (before_of nodes to) at to) (slice_set counts to (get_or counts to 0 + 1)) edges (linked now e).lists
-      (threaded_in (length counts) nodes counts edges now.lists t to e (between_labels within) within refl free)
+      (threaded_in (length counts) nodes counts edges now.lists t to e (into_labels within) within refl free)
 
   pub lead_seen : (label : Label) → label.0 < length (walks (length counts) nodes counts) → e.0 < length edges → (IsLinked (table_of nodes counts edges) e → ⊥) → Seen nodes counts (slice_set edges e.0 ((edge_of (table_of nodes counts edges) e).0, label)) (led_to (table_of nodes counts edges) e label)
   lead_seen label label_in within free =
@@ -351,10 +349,10 @@ module _ (nodes : List Node) (counts : List ℕ) (edges : List (Label × Label))
 
   pub few_counted : e.0 < length edges → (IsLinked (table_of nodes counts edges) e → ⊥) → get_or counts (end_of (table_of nodes counts edges) e).0 0 + 1 < 2 ^ 32
   few_counted within free =
-      let s = threaded_in (length counts) nodes counts edges now.lists t to e (between_labels within) within refl free in
+      let s = threaded_in (length counts) nodes counts edges now.lists t to e (into_labels within) within refl free in
       let more = list_few (length counts) (lead_both nodes (before_of nodes to) at to) (slice_set counts to (get_or counts to 0 + 1)) edges (linked now e).lists s to in
-      let count = s.counted to (between_labels within) in
-      let read = get_or-set_same counts to (get_or counts to 0 + 1) 0 (between_labels within) in
+      let count = s.counted to (into_labels within) in
+      let read = get_or-set_same counts to (get_or counts to 0 + 1) 0 (into_labels within) in
       omega (arith, more, count, read, t.few)
 
 -- ---- an edge that is not linked

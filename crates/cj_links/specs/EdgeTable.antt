@@ -64,13 +64,13 @@ lists_into labels edges = map (λ n. edges_into (label_of n) 0 edges) (range_wit
 abbrev pub given : ℕ → List (Label × Label) → EdgeTable
 given labels edges = edge_table edges (lists_into labels edges)
 
--- both ends of an edge are below a number
-abbrev pub IsBetween : ℕ → Label × Label → Type 0
-IsBetween labels edge = (edge.0.0 < labels) × (edge.1.0 < labels)
+-- an edge leads to a label below a number
+abbrev pub IsInto : ℕ → Label × Label → Type 0
+IsInto labels edge = edge.1.0 < labels
 
--- the edges are between labels that have a list, and in the list of a label stand edges that lead to it, each once
+-- the edges lead to labels that have a list, and in the list of a label stand edges that lead to it, each once
 pub record IsWoven (t : EdgeTable) : Type 0 where
-  pub between : All (IsBetween (length t.lists)) t.edges
+  pub into : All (IsInto (length t.lists)) t.edges
   pub edges_in : (label : Label) → All (λ edge. edge.0 < length t.edges) (list_of t label)
   pub ends : (label : Label) → All (λ edge. end_of t edge ≡ label) (list_of t label)
   pub once : (label : Label) → AllPairs (λ one other. one ≢ other) (list_of t label)

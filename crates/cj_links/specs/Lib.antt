@@ -1,4 +1,5 @@
 pub mod Waiting
 pub mod Slots
 pub mod EdgeTable
+pub mod UseTable
 pub mod Threads

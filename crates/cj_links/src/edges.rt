@@ -3,7 +3,7 @@
 ghost use Rattle.std.specs.Prelude.{◌≡◌, ℕ, ◌+◌, ◌^◌, ◌<◌, [], All, IfOk, length, map, slice_get};
 ghost use Rattle.std.specs.List.{range_with_len};
 ghost use Rattle.cj_ir.specs.declared.language.Label.{Label};
-ghost use Rattle.cj_links.specs.EdgeTable.{list_of, end_of, IsLinked, IsBetween, IsWoven, unlinked, linked, led_to, moved, lists_into, given, edge_table};
+ghost use Rattle.cj_links.specs.EdgeTable.{list_of, end_of, IsLinked, IsInto, IsWoven, unlinked, linked, led_to, moved, lists_into, given, edge_table};
 ghost use Rattle.cj_links.specs.Threads.{node, lead, edge_at};
 
 use crate::worklist::filled;
@@ -139,10 +139,10 @@ impl EdgeLists {
     }
 
     /// For labels below a number, the lists of these edges, each in the list of its second label, in the order in which they
-    /// are given. Both ends of each edge are below that number, and there are fewer than 2^32 edges.
+    /// are given. Each edge leads to a label below that number, and there are fewer than 2^32 edges.
     pub fn of(alloc: Global, labels: u32, edges: &[(Label, Label)]) -> Result<EdgeLists, NoMemory>
         requires few { length edges.now < 2 ^ 32 }
-        requires between { All (IsBetween labels) edges.now }
+        requires into { All (IsInto labels) edges.now }
         ensures lists { IfOk result (λ made. made ≡ given labels edges.now) }
         ensures woven { IfOk result (λ made. IsWoven made) }
     {
@@ -156,7 +156,7 @@ impl EdgeLists {
     /// These edges, none of them linked.
     fn apart(alloc: Global, labels: u32, edges: &[(Label, Label)]) -> Result<EdgeLists, NoMemory>
         requires few { length edges.now < 2 ^ 32 }
-        requires between { All (IsBetween labels) edges.now }
+        requires into { All (IsInto labels) edges.now }
         ensures lists { IfOk result (λ made. made ≡ edge_table edges.now (lists_into labels [])) }
         ensures woven { IfOk result (λ made. IsWoven made) }
     {

@@ -1,10 +1,11 @@
-//! The lists of three edges, and three labels that wait.
+//! The lists of three edges and of three uses, and three labels that wait.
 
 ghost use Rattle.std.specs.Prelude.{◌≡◌, IfOk};
 ghost use Rattle.cj_links.specs.EdgeTable.{given, three_edges};
+ghost use Rattle.cj_links.specs.UseTable.{given_uses, three_uses};
 
-use super::{EdgeId, EdgeLists, Worklist};
-use cj_ir::Label;
+use super::{EdgeId, EdgeLists, UseId, UseLists, Worklist};
+use cj_ir::{Label, Reg};
 use std::alloc::Global;
 use std::process::Abort;
 use std::test::Fail;
@@ -70,5 +71,32 @@ fn an_unlinked_edge_is_gone(rt: HostRuntime) -> Result<(), Fail> {
     lists.unlink(EdgeId(1));
     assert_eq!(&rt; lists.first(Label(2)), Some(EdgeId(2)));
     assert_eq!(&rt; lists.count(Label(2)), 1);
+    Ok(())
+}
+
+fn two_registers(alloc: Global) -> Result<UseLists, Fail>
+    ensures { IfOk result (λ lists. lists ≡ given_uses 2 three_uses) }
+{
+    let uses = [(Reg(0), Label(0)), (Reg(1), Label(0)), (Reg(0), Label(2))];
+    let lists = UseLists::of(alloc, 2, &uses)?;
+    Ok(lists)
+}
+
+#[test]
+fn uses_of_a_register_in_order(rt: HostRuntime) -> Result<(), Fail> {
+    let lists = two_registers(rt.alloc())?;
+    assert_eq!(&rt; lists.count(Reg(0)), 2);
+    assert_eq!(&rt; lists.first(Reg(0)), Some(UseId(0)));
+    assert_eq!(&rt; lists.next(UseId(0)), Some(UseId(2)));
+    assert_eq!(&rt; lists.label(UseId(2)), Label(2));
+    Ok(())
+}
+
+#[test]
+fn an_unlinked_use_is_gone(rt: HostRuntime) -> Result<(), Fail> {
+    let mut lists = two_registers(rt.alloc())?;
+    lists.unlink(UseId(0));
+    assert_eq!(&rt; lists.first(Reg(0)), Some(UseId(2)));
+    assert_eq!(&rt; lists.count(Reg(0)), 1);
     Ok(())
 }

@@ -7,9 +7,10 @@ ghost use Rattle.cj_passes.specs.Lowering.{passed, Reached, AreKept};
 ghost use Rattle.cj_rows.specs.Edges.{IsClosed};
 ghost use Rattle.cj_passes.specs.Search.{IsSearch, Grows, AreLed, IsFollowed};
 
+use cj_draft::limits::MAX_ROW;
 use cj_draft::{Code, Successors};
 use cj_ir::{Label, Labels, NoMemory, Sequence};
-use cj_rows::{MAX_ROW, anchor_at};
+use cj_rows::anchor_at;
 use std::alloc::Global;
 
 /// For each label of a code, whether it is kept.

@@ -5,3 +5,4 @@ mod Parts
 mod Taking
 mod Adding
 mod Shaping
+mod Starting

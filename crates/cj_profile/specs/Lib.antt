@@ -1,5 +1,6 @@
 pub mod Words
 pub mod Reads
+pub mod Starts
 pub mod Jobs
 pub mod Snapshots
 pub mod Rule

@@ -1,6 +1,7 @@
 -- A profile and its seats.
 use Rattle.std.specs.Prelude.{◌≡◌, Bool, true, List, [], ◌++◌}
 use Rattle.cj_ir.specs.declared.language.Program.{Program}
+use Rattle.cj_profile.specs.Starts.{FromZeros}
 use Rattle.cj_profile.specs.declared.view.Read.{Read}
 use Rattle.cj_profile.specs.declared.view.View.{View}
 use Rattle.cj_profile.specs.declared.profile.Profile.{Profile}
@@ -20,15 +21,22 @@ reads_of s = (view_of s).reads
 abbrev pub joined_of : ProfileSeat → List (List Read)
 joined_of s = (view_of s).joined
 
--- the seat is one of the profile's, and was not joined into another
+-- there never was another seat
+abbrev pub IsSole : ProfileSeat → Type 0
+IsSole s = (view_of s).sole ≡ true
+
+-- The seat is one of the profile's, and was not joined into another. Where it is the only one, its steps began with words
+-- that were all 0.
 pub record Belongs (t : Profile) (s : ProfileSeat) : Type 0 where
   pub table : s.seat.table_id ≡ t.table.shared.table_id
   pub live : (view_of s).live ≡ true
   pub program : (view_of s).program ≡ program_of t
+  pub starts : IsSole s → FromZeros (reads_of s)
 
--- the seat is the same: whether it is first, how many splits it made, and what was joined into it
+-- the seat is the same: whether it is first and the only one, how many splits it made, and what was joined into it
 pub record IsSame (old new : ProfileSeat) : Type 0 where
   pub first : new.first ≡ old.first
+  pub sole : (view_of new).sole ≡ (view_of old).sole
   pub splits : new.splits ≡ old.splits
   pub joined : joined_of new ≡ joined_of old
 

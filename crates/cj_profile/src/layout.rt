@@ -36,8 +36,8 @@ pub enum Word {
     },
 }
 
-// The words of a function.
-const FUNCTION_WORDS: usize = 532;
+/// How many words a function has.
+pub const FUNCTION_WORDS: usize = 532;
 
 impl Word {
     /// The word's number.

@@ -1,6 +1,6 @@
 //! The rule of the words, and what each step tells.
 
-ghost use Rattle.cj_profile.specs.Rule.{Ruled, fresh, given, spent_view, joined_view, loaded, stored, added, raised, exchanged};
+ghost use Rattle.cj_profile.specs.Rule.{Ruled, fresh, shared, given, spent_view, joined_view, loaded, stored, added, raised, exchanged};
 
 use crate::view::View;
 use atomic_table::{Join, Play, Split, TableRule};
@@ -19,7 +19,7 @@ impl TableRule<(), View, Checked> for Levels {
 pub struct Seating;
 
 impl Split<View> for Seating {
-    ghost left = { λ v. v };
+    ghost left = { shared };
 
     ghost right = { given };
 }

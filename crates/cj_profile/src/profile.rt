@@ -6,6 +6,7 @@ ghost use Rattle.cj_profile.specs.Words.{word_count};
 ghost use Rattle.cj_profile.specs.Limits.{IsLimited};
 ghost use Rattle.cj_profile.specs.Shapes.{shape_of};
 
+use crate::layout::FUNCTION_WORDS;
 use crate::plays::{Levels, Seating};
 use crate::view::View;
 use atomic_table::{Seat, Table};
@@ -42,16 +43,18 @@ pub struct ProfileSeat {
 }
 
 impl Profile {
-    ghost use Rattle.cj_profile.specs.Seats.{program_of, reads_of, joined_of, Belongs, IsNew};
+    ghost use Rattle.cj_profile.specs.Seats.{program_of, reads_of, joined_of, Belongs, IsNew, IsSole};
 
-    /// A program's profile, all words 0, with its first seat.
+    /// A program's profile, all words 0, with its first seat. As long as that is the only one, its steps find what they
+    /// themselves have left, and 0 at first (`FromZeros`, which `Belongs` tells of it).
     pub fn make(alloc: Global, checked: &Checked) -> Result<(Profile, ProfileSeat), NoMemory>
         ensures program { IfOk result (λ made. program_of made.0 ≡ checked.now) }
         ensures seat { IfOk result (λ made. Belongs made.0 made.1 × IsNew true made.1) }
+        ensures sole { IfOk result (λ made. IsSole made.1) }
     {
         let functions = checked.program().functions.items();
         let shapes = shapes_of(alloc, functions)?;
-        let words = vec![in alloc; 0u64; 532 * functions.len() + 1]?;
+        let words = vec![in alloc; 0u64; FUNCTION_WORDS * functions.len() + 1]?;
         let (table, seat) = Table::of_words(alloc, words.as_slice(), checked)?;
         let profile = Profile { table, shapes };
         let seat = ProfileSeat {

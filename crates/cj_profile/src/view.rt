@@ -10,10 +10,11 @@ pub struct Read {
     pub left: u64,
 }
 
-/// Whether the seat was not joined into another yet, the profile's program, the steps that the seat made, and those of
-/// the seats that were joined into it, a list for each.
+/// Whether the seat was not joined into another yet, whether there never was another seat, the profile's program, the
+/// steps that the seat made, and those of the seats that were joined into it, a list for each.
 pub struct View {
     pub live: bool,
+    pub sole: bool,
     pub program: Program,
     pub reads: LinkedList<Read>,
     pub joined: LinkedList<LinkedList<Read>>,

@@ -3,11 +3,11 @@
 ghost use Rattle.std.specs.Prelude.{◌≡◌, ◌+◌};
 ghost use Rattle.cj_rows.specs.Guards.{guard_offence, register_offence, guards_offence};
 
-use cj_draft::{Room, Skipped, told};
+use cj_draft::{Room, Skipped, limits, told};
 use cj_ir::Guard;
 
 /// Guards of an Assume, at most.
-const MAX_GUARDS: usize = 8;
+const MAX_GUARDS: usize = limits::MAX_GUARDS as usize;
 
 /// The first of the guards whose register is not in a draft with that many registers. `None`: all are.
 pub fn register_offence(regs: u32, guards: &[Guard]) -> Option<Skipped>

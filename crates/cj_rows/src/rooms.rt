@@ -3,11 +3,8 @@
 ghost use Rattle.std.specs.Prelude.{◌≡◌};
 ghost use Rattle.cj_rows.specs.Rooms.{room_offence};
 
-use crate::rows::MAX_ROW;
+use cj_draft::limits::{MAX_CODE_LABELS, MAX_ROW};
 use cj_draft::{Room, Skipped};
-
-/// Labels of a draft, at most.
-const MAX_LABELS: u32 = 512;
 
 /// Why there is no room for a fresh Assume or Anchor in a row of that many with it, in a draft of that many labels with
 /// its own: more than 8 would follow each other, or else the draft would have more than 512 labels. `None`: there is room.
@@ -21,7 +18,7 @@ pub fn room_offence(row: u32, labels: u32) -> Option<Skipped>
             count: row,
         });
     }
-    if labels > MAX_LABELS {
+    if labels > MAX_CODE_LABELS {
         return Some(Skipped::Full {
             room: Room::Labels,
             count: labels,

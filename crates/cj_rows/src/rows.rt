@@ -3,11 +3,9 @@
 ghost use Rattle.std.specs.Prelude.{◌≡◌, ◌≤◌, ◌<◌, max, length};
 ghost use Rattle.cj_rows.specs.Rows.{guard_at, anchor_next, anchor_at, guards_after, steps_to, guards_before, fresh_row};
 
+use cj_draft::limits::MAX_ROW;
 use cj_draft::{Code, VInstr};
 use cj_ir::Label;
-
-/// As many Assumes and Anchors follow each other in a sound code, at most.
-pub const MAX_ROW: u32 = 8;
 
 /// The next label of the Assume or Anchor at a label. `None`: there is no such label, or another instruction is there.
 #[tactic(auto, unfolding(crate::specs::Rows::guard_at, crate::specs::Rows::guard_in, cj_draft::specs::Sound::guard_next))]

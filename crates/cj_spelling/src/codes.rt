@@ -11,15 +11,18 @@ use crate::spelled::{Spelled, Words};
 use cj_draft::Code;
 use cj_ir::NoMemory;
 use std::alloc::Global;
+use thiserror::Error;
 
 /// The most words of a code.
 pub const MAX_WORDS: u64 = 65536;
 
 /// Why a code has no words.
-#[derive(Clone, Copy, Debug, PartialEq, Eq)]
+#[derive(Clone, Copy, Debug, PartialEq, Eq, Error)]
 pub enum EncodeError {
     /// The spelling has so many words, more than 65,536. (Where they are more than 2^64 - 1, it is that number.)
+    #[error("the code has {len} words")]
     TooLarge { len: u64 },
+    #[error("there was no memory")]
     NoMemory,
 }
 

@@ -19,7 +19,6 @@ use Rattle.cj_engine.specs.Versions.{State, Codes}
 use Rattle.cj_engine.specs.VersionRuns.{version_report}
 use Rattle.cj_engine.specs.CodeMaps.{Grows}
 use Rattle.cj_engine.specs.Watching.{Gains}
-use Rattle.cj_engine.specs.Machines.{state_of}
 use Rattle.cj_engine.specs.Engines.{IsRun}
 use Rattle.cj_world.specs.declared.cache.Cache.{Cache}
 use Rattle.cj_world.specs.declared.played.Compiled.{Compiled}
@@ -52,7 +51,7 @@ orderly_after w v stays ready next o fit = record {
 
 -- ---- a run begins
 
-pub begun_world : (P : Program) (call : Begun) (w v : whole.World) (run : code.Run) → Stays w.cache v.cache → v.next ≡ w.next → v.compiled ≡ w.compiled → v.skips ≡ w.skips → v.runs.items ≡ w.runs.items ++ run ∷ [] → v.cache.trail ≡ w.cache.trail ++ run.engine.machine.looks → run_of run ≡ begun_run P (codes_in (made_in w.cache)) w.cache.current call → world_of v ≡ begins P call (world_of w)
+pub begun_world : (P : Program) (call : Begun) (w v : whole.World) (run : code.Run) → Stays w.cache v.cache → v.next ≡ w.next → v.compiled ≡ w.compiled → v.skips ≡ w.skips → v.runs.items ≡ w.runs.items ++ run ∷ [] → v.cache.trail ≡ w.cache.trail ++ run.engine.looks → run_of run ≡ begun_run P (codes_in (made_in w.cache)) w.cache.current call → world_of v ≡ begins P call (world_of w)
 unfolding world_of begins run_of
 begun_world P call w v run stays next compiled skips runs trail made =
     same_world (world_of v) (begins P call (world_of w)) next stays.current (same_made w.cache v.cache stays)
@@ -66,15 +65,15 @@ steps_is : (P : Program) (k n : ℕ) (w : World) (run : Run) → slice_get w.run
 unfolding steps moved
 steps_is P k n w run at = ap (λ found. moved P k n w found) at
 
-pub gone_world : (P : Program) (place count : ℕ) (w v : whole.World) (was now : code.Run) → Stays w.cache v.cache → v.next ≡ w.next → v.compiled ≡ w.compiled → v.skips ≡ w.skips → slice_get w.runs.items place ≡ Some was → v.runs.items ≡ slice_set w.runs.items place now → Gains was.engine.machine.looks now.engine.machine.looks w.cache.trail v.cache.trail → run_of now ≡ turns P (codes_in (made_in w.cache)) w.cache.current count (run_of was) → world_of v ≡ steps P place count (world_of w)
+pub gone_world : (P : Program) (place count : ℕ) (w v : whole.World) (was now : code.Run) → Stays w.cache v.cache → v.next ≡ w.next → v.compiled ≡ w.compiled → v.skips ≡ w.skips → slice_get w.runs.items place ≡ Some was → v.runs.items ≡ slice_set w.runs.items place now → Gains was.engine.looks now.engine.looks w.cache.trail v.cache.trail → run_of now ≡ turns P (codes_in (made_in w.cache)) w.cache.current count (run_of was) → world_of v ≡ steps P place count (world_of w)
 unfolding world_of became run_of
 gone_world P place count w v was now stays next compiled skips at runs gains made =
     let after = turns P (codes_in (made_in w.cache)) w.cache.current count (run_of was) in
     let found : slice_get (map run_of w.runs.items) place ≡ Some (run_of was) = slice_get-map run_of w.runs.items place ∙ ap (λ (r : Option code.Run). option_map run_of r) at in
-    let new : drop (length was.engine.machine.looks) after.looks ≡ gains.more =
-    ap (λ (r : Run). drop (length was.engine.machine.looks) r.looks) (sym made)
-    ∙ ap (λ (ls : List Look). drop (length was.engine.machine.looks) ls) gains.looks_more
-    ∙ drop_at was.engine.machine.looks gains.more (length was.engine.machine.looks) refl in
+    let new : drop (length was.engine.looks) after.looks ≡ gains.more =
+    ap (λ (r : Run). drop (length was.engine.looks) r.looks) (sym made)
+    ∙ ap (λ (ls : List Look). drop (length was.engine.looks) ls) gains.looks_more
+    ∙ drop_at was.engine.looks gains.more (length was.engine.looks) refl in
     same_world (world_of v) (became (world_of w) place (run_of was) after) next stays.current (same_made w.cache v.cache stays)
     (ap (λ (rs : List code.Run). map run_of rs) runs ∙ map-set run_of w.runs.items place now ∙ ap (λ (r : Run). slice_set (map run_of w.runs.items) place r) made)
     (gains.trail_more ∙ ap (λ (ls : List Look). w.cache.trail ++ ls) (sym new))
@@ -143,10 +142,11 @@ module _ (runs_kept : RunsKept) (reports_kept : ReportsKept) where
 
   fits_later : (P : Program) (codes later : Codes) (run : code.Run) → Grows codes later → Fits P codes run → Fits P later run
   fits_later P codes later run grows fits = record {
-    checked = fits.checked;
+    program = fits.program;
     takes = fits.takes;
     running = fits.running;
-    at = at_later P codes later run.engine.machine.looks (begun run.call.now) run.end (state_of run.engine.machine) grows fits.at;
+    used = fits.used;
+    at = at_later P codes later run.engine.looks (begun run.call.now) run.end run.engine.state grows fits.at;
   }
 
   pub published_orderly : (code : Code) (w v : whole.World) → IsReady v.cache → v.cache.checked ≡ w.cache.checked → v.next ≡ w.next + words_in code → made_in v.cache ≡ made_in w.cache ++ record { offset = w.next; code = code } ∷ [] → v.runs ≡ w.runs → Orderly w → Orderly v

@@ -8,3 +8,6 @@ pub mod Changing
 pub mod Playing
 pub mod Uniqueness
 pub mod Answering
+mod Looking
+mod Ways
+mod Going

@@ -1,18 +1,15 @@
 -- The report of a run that has ended or has reached its limit.
-use Rattle.std.proofs.Common.{◌≡◌, refl, subst, arith, ℕ, List, length, Option, Some, None, inl, inr}
+use Rattle.std.proofs.Common.{◌≡◌, refl, List, length, Option, Some, None}
 use Rattle.cj_ir.specs.declared.language.Program.{Program}
 use Rattle.cj_base.specs.declared.machine.End.{End}
 use Rattle.cj_base.specs.declared.machine.End.TheVariants.{TurnLimit}
-use Rattle.cj_base.specs.Run.{Begun, begun}
+use Rattle.cj_base.specs.Run.{Begun}
 use Rattle.cj_calls.specs.declared.report.Look.{Look}
 use Rattle.cj_engine.specs.Versions.{State, Codes}
 use Rattle.cj_engine.specs.VersionRuns.{report_of, report_at, version_report}
-use Rattle.cj_engine.specs.Machines.{state_of}
 use Rattle.cj_engine.specs.Engines.{IsRun}
 use Rattle.cj_engine.proofs.Runs.{used_whole}
-use Rattle.cj_world.specs.declared.runs.Run as code
-use Rattle.cj_world.specs.Running.{progress_by, end_answered, IsAt, IsThrough, Fits}
-use Rattle.cj_world.proofs.Steps.{HasMade}
+use Rattle.cj_world.specs.Running.{progress_by, end_answered, IsAt}
 
 pub read_at : (looks : List Look) (o : Option End) (s : State) → s.entries ≡ length looks → report_at looks (progress_by o s) ≡ Some (report_of looks (end_answered o) s)
 unfolding progress_by end_answered report_at
@@ -29,13 +26,3 @@ pub told_whole : LimitReports → (P : Program) (codes : Codes) (looks : List Lo
 unfolding end_answered
 told_whole law P codes looks call None s at through = law P codes looks call s at (through refl)
 told_whole law P codes looks call (Some end) s at through = at
-
--- as many turns as the limit allows
-pub through_at_limit : (P : Program) (codes : Codes) (run : code.Run) (n : ℕ) → Fits P codes run → HasMade n run → run.call.now.limit ≡ n → IsThrough run
-unfolding begun state_of
-through_at_limit P codes run n fits (inl through) same = through
-through_at_limit P codes run n fits (inr made) same = λ none.
-    let is : IsRun P codes run.engine.machine.looks (begun run.call.now) (state_of run.engine.machine) =
-    subst (λ (o : Option End). IsAt P codes run.engine.machine.looks (begun run.call.now) o (state_of run.engine.machine)) none fits.at in
-    let within = is.within in
-    omega arith

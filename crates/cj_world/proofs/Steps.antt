@@ -1,17 +1,15 @@
 -- What a start and a turn of the engine make of a run.
-use Rattle.std.proofs.Common.{◌≡◌, ◌∙◌, refl, sym, ap, subst, arith, ℕ, ◌+◌, ◌<◌, ◌≤◌, true, false, List, [], ◌++◌, map, length, Option, None, if◌then◌else◌}
+use Rattle.std.proofs.Common.{◌≡◌, ◌∙◌, refl, sym, ap, subst, arith, ℕ, ◌<◌, ◌≤◌, true, false, List, ◌++◌, map, Option, None, if◌then◌else◌}
 use Rattle.std.specs.Prelude.{nat_lt, slice_get}
 use Rattle.std.proofs.lemmas.Bool.Decides.{nat_tests}
 use Rattle.std.proofs.lemmas.List.{append_cancel_left}
-use Rattle.std.proofs.Common.{inl, inr, add-one, append_assoc, append-nil}
-use Rattle.std.specs.Prelude.{◌⊎◌}
 use Rattle.cj_ir.specs.declared.language.Program.{Program}
 use Rattle.cj_base.specs.declared.machine.End.{End}
 use Rattle.cj_base.specs.declared.machine.Turned.{Turned}
 use Rattle.cj_base.specs.declared.machine.Turned.TheVariants.{Running, Ended}
 use Rattle.cj_base.specs.Run.{Begun}
 use Rattle.cj_calls.specs.declared.report.Look.{Look}
-use Rattle.cj_engine.specs.Versions.{State, Codes, Progress, Continues, Finishes, version_turn}
+use Rattle.cj_engine.specs.Versions.{State, Codes, Progress, Continues, Finishes, Undefined, version_turn}
 use Rattle.cj_engine.specs.VersionRuns.{version_start}
 use Rattle.cj_engine.specs.Marks.{turn_marks, start_marks}
 use Rattle.cj_engine.specs.Watching.{Gains}
@@ -20,9 +18,9 @@ use Rattle.cj_engine.specs.Engines.{RunGoes, goes_on}
 use Rattle.cj_draft.specs.Bodies.{Body}
 use Rattle.cj_world.specs.declared.cache.Cache.{Cache}
 use Rattle.cj_world.specs.declared.runs.Run as code
-use Rattle.cj_world.specs.Worlds.{Run, codes_in, looks_of, begun_run, turned, turned_by, one_turn, turns}
+use Rattle.cj_world.specs.Worlds.{Run, codes_in, looks_of, begun_run, turned, turned_by, one_turn}
 use Rattle.cj_world.specs.Caches.{made_of, made_in, Stays}
-use Rattle.cj_world.specs.Running.{progress_by, end_told, IsAt, Fits, IsThrough, IsFurther}
+use Rattle.cj_world.specs.Running.{progress_by, end_told, IsAt, Fits}
 
 -- a run and the trail gain the same looks
 pub gained_looks : (looks now_looks trail now_trail new : List Look) → Gains looks now_looks trail now_trail → now_trail ≡ trail ++ new → now_looks ≡ looks ++ new
@@ -64,6 +62,10 @@ module _ (P : Program) (codes : Codes) (current : List ℕ) (run : Run) where
   unfolding one_turn turned_by
   is_over end s is = ap (λ p. turned_by P codes current run p) is
 
+  pub is_lost : run.progress ≡ Undefined → one_turn P codes current run ≡ run
+  unfolding one_turn turned_by
+  is_lost is = ap (λ p. turned_by P codes current run p) is
+
 -- where a turn's answer leaves a run
 pub told_progress : (answer : Turned) (s : State) → progress_by (end_told answer) s ≡ progress_of answer s
 unfolding progress_by end_told
@@ -73,7 +75,7 @@ told_progress (Ended end) s = refl
 pub told_at : (P : Program) (codes : Codes) (looks : List Look) (call : Begun) (answer : Turned) (s : State) → RunGoes P codes looks call answer s → IsAt P codes looks call (end_told answer) s
 unfolding end_told
 told_at P codes looks call Running s h = h
-told_at P codes looks call (Ended end) s h = h
+told_at P codes looks call (Ended end) s h = h.report
 
 pub told_on : (answer : Turned) (o : Option End) → o ≡ end_told answer → o ≡ None → goes_on answer ≡ true
 unfolding end_told goes_on
@@ -82,17 +84,6 @@ told_on (Ended end) o same none = absurd cc
 
 -- a turn of the engine, over codes and a program that are these
 module _ (P Q : Program) (codes later : Codes) (program : Q ≡ P) (same : later ≡ codes) where
-  pub turn_made : (current : List ℕ) (run : Run) (now_looks trail now_trail : List Look) (s after : State) (answer : Turned) (o : Option End) → s.entries ≡ length run.looks → Gains run.looks now_looks trail now_trail → now_trail ≡ trail ++ looks_of current (turn_marks Q later s) → version_turn Q later (slice_get now_looks (length run.looks)) s ≡ progress_of answer after → o ≡ end_told answer → record { call = run.call; looks = now_looks; progress = progress_by o after } ≡ turned P codes current run s
-  turn_made current run now_looks trail now_trail s after answer o used gains told made ended =
-      let told' = subst (λ (R : Program). now_trail ≡ trail ++ looks_of current (turn_marks R codes s)) program
-      (subst (λ (c : Codes). now_trail ≡ trail ++ looks_of current (turn_marks Q c s)) same told) in
-      let made' = subst (λ (R : Program). version_turn R codes (slice_get now_looks (length run.looks)) s ≡ progress_of answer after) program
-      (subst (λ (c : Codes). version_turn Q c (slice_get now_looks (length run.looks)) s ≡ progress_of answer after) same made) in
-      let at_entries = subst (λ (n : ℕ). version_turn P codes (slice_get now_looks n) s ≡ progress_of answer after) (sym used) made' in
-      let left : progress_of answer after ≡ progress_by o after =
-      sym (told_progress answer after) ∙ ap (λ (e : Option End). progress_by e after) (sym ended) in
-      turned_same P codes current run s now_looks (progress_by o after) (gained_looks run.looks now_looks trail now_trail (looks_of current (turn_marks P codes s)) gains told') (at_entries ∙ left)
-
   pub turn_at : (looks : List Look) (call : Begun) (s : State) (answer : Turned) (o : Option End) → RunGoes Q later looks call answer s → o ≡ end_told answer → IsAt P codes looks call o s
   turn_at looks call s answer o goes ended =
       let goes' = subst (λ (R : Program). RunGoes R codes looks call answer s) program (subst (λ (c : Codes). RunGoes Q c looks call answer s) same goes) in
@@ -113,39 +104,3 @@ pub fits_before : (cache after : Cache) (run : code.Run) → Stays cache after �
 fits_before cache after run stays fits =
     subst (λ (P : Program). Fits P (codes_in (made_in cache)) run) stays.checked
     (subst (λ (codes : Codes). Fits after.checked.now codes run) (same_codes cache after stays) fits)
-
--- ---- turn after turn
-
-turns_more : (P : Program) (codes : Codes) (current : List ℕ) (n : ℕ) (run : Run) → turns P codes current (n + 1) run ≡ one_turn P codes current (turns P codes current n run)
-unfolding turns
-turns_more P codes current n run = rw add-one refl
-
-pub turns_on : (cache after : Cache) (n : ℕ) (first run next : Run) → Stays cache after → run ≡ turns cache.checked.now (codes_in (made_in cache)) cache.current n first → next ≡ one_turn after.checked.now (codes_in (made_in after)) after.current run → next ≡ turns cache.checked.now (codes_in (made_in cache)) cache.current (n + 1) first
-turns_on cache after n first run next stays before one =
-    let P = cache.checked.now in
-    let codes : Codes = codes_in (made_in cache) in
-    one
-    ∙ ap (λ (Q : Program). one_turn Q (codes_in (made_in after)) after.current run) stays.checked
-    ∙ ap (λ (c : Codes). one_turn P c after.current run) (same_codes cache after stays)
-    ∙ ap (λ (current : List ℕ). one_turn P codes current run) stays.current
-    ∙ ap (λ (r : Run). one_turn P codes cache.current r) before
-    ∙ sym (turns_more P codes cache.current n first)
-
--- how far a run has come after n turns
-abbrev pub HasMade : ℕ → code.Run → Type 0
-HasMade n run = IsThrough run ⊎ (n ≤ run.engine.machine.turns)
-
-pub further : (n : ℕ) (before after : code.Run) → HasMade n before → IsFurther before after → (IsThrough before → IsThrough after) → HasMade (n + 1) after
-further n before after (inl through) far keeps = inl (keeps through)
-further n before after (inr made) (inl through) keeps = inl through
-further n before after (inr made) (inr more) keeps = inr (omega arith)
-
-pub gains_on : (a b c s t u : List Look) → Gains a b s t → Gains b c t u → Gains a c s u
-gains_on a b c s t u one two = record {
-  more = one.more ++ two.more;
-  looks_more = two.looks_more ∙ ap (λ ls. ls ++ two.more) one.looks_more ∙ append_assoc a one.more two.more;
-  trail_more = two.trail_more ∙ ap (λ ls. ls ++ two.more) one.trail_more ∙ append_assoc s one.more two.more;
-}
-
-pub gains_nothing : (looks trail : List Look) → Gains looks looks trail trail
-gains_nothing looks trail = record { more = []; looks_more = sym (append-nil looks); trail_more = sym (append-nil trail) }

@@ -1,5 +1,5 @@
 -- What contracts see of the code's runs and of its world.
-use Rattle.std.specs.Prelude.{◌≡◌, ℕ, ◌+◌, ◌⊎◌, ◌<◌, ◌≤◌, List, map, length, All, Option, Some, None, true, slice_get, slice_set}
+use Rattle.std.specs.Prelude.{◌≡◌, ℕ, ◌<◌, ◌≤◌, List, map, length, All, Option, Some, None, true, slice_get, slice_set}
 use Rattle.cj_ir.specs.WellFormed.{Takes}
 use Rattle.cj_ir.specs.declared.language.Program.{Program}
 use Rattle.cj_base.specs.declared.machine.End.{End}
@@ -12,7 +12,6 @@ use Rattle.cj_calls.specs.declared.report.Report.{Report}
 use Rattle.cj_spelling.specs.Counting.{capped}
 use Rattle.cj_engine.specs.Versions.{State, Codes, Progress, Continues, Finishes}
 use Rattle.cj_engine.specs.VersionRuns.{version_report, report_of}
-use Rattle.cj_engine.specs.Machines.{state_of}
 use Rattle.cj_engine.specs.Engines.{IsRun}
 use Rattle.cj_world.specs.declared.runs.Run as code
 use Rattle.cj_world.specs.declared.world.World as whole
@@ -31,8 +30,8 @@ progress_by (Some end) s = Finishes end s
 unfoldable pub run_of : code.Run → Run
 run_of run = record {
   call = begun run.call.now;
-  looks = run.engine.machine.looks;
-  progress = progress_by run.end (state_of run.engine.machine);
+  looks = run.engine.looks;
+  progress = progress_by run.end run.engine.state;
 }
 
 -- the end that a turn tells
@@ -51,18 +50,15 @@ IsAt P codes looks call None s = IsRun P codes looks call s
 IsAt P codes looks call (Some end) s = version_report P codes looks call ≡ Some (report_of looks end s)
 
 pub record Fits (P : Program) (codes : Codes) (run : code.Run) : Type 0 where
-  pub checked : run.engine.checked.now ≡ P
+  pub program : run.engine.program ≡ P
   pub takes : Takes P.functions run.call.now.function (length run.call.now.args)
   pub running : run.end ≡ None → run.engine.running ≡ true
-  pub «at» : IsAt P codes run.engine.machine.looks (begun run.call.now) run.end (state_of run.engine.machine)
+  pub used : run.engine.state.entries ≡ length run.engine.looks
+  pub «at» : IsAt P codes run.engine.looks (begun run.call.now) run.end run.engine.state
 
 -- it has ended, or has reached its limit
 abbrev pub IsThrough : code.Run → Type 0
-IsThrough run = run.end ≡ None → run.engine.machine.turns ≡ run.call.now.limit
-
--- it has made a turn, unless it could not
-abbrev pub IsFurther : code.Run → code.Run → Type 0
-IsFurther before after = IsThrough after ⊎ (after.engine.machine.turns ≡ before.engine.machine.turns + 1)
+IsThrough run = run.end ≡ None → run.engine.state.turns ≡ run.call.now.limit
 
 -- the run at a place has made so many turns, or as many as it could
 pub record HasGone (place count : ℕ) (before after : List code.Run) : Type 0 where

@@ -8,6 +8,7 @@ mod plays;
 mod runs;
 mod world;
 
+pub use cj_events::{Event, Events, parse_replay};
 pub use played::{Compiled, CompiledList, Played, SkipLists};
 pub use plays::play;
 

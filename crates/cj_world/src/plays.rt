@@ -2,7 +2,7 @@
 
 ghost use Rattle.std.specs.Prelude.{◌≡◌, All, IfOk};
 ghost use Rattle.std.specs.List.{AllZip};
-ghost use Rattle.cj_events.specs.Fitting.{FitsEvents};
+ghost use Rattle.cj_events.specs.Playable.{CanPlay};
 ghost use Rattle.cj_world.specs.Plays.{AllHappen};
 ghost use Rattle.cj_world.specs.Worlds.{codes_in, first_world};
 ghost use Rattle.cj_world.specs.Played.{IsPlay};
@@ -23,6 +23,10 @@ const TABLE_WORDS: u32 = 1_048_576;
 
 /// The play of events, in a table of 1,048,576 words, which begins with one word and one for each function.
 ///
+/// Any events may be played that can happen: each run that begins is of a function of the program, with as many arguments
+/// as it takes and a limit of 1 to 1,000,000 turns; each run that makes steps has begun; each function that is compiled
+/// exists. Passes may name labels and registers that are nowhere, and then they are skipped.
+///
 /// The events happen one after the other. A run that begins looks its function up. A step makes so many turns of its run,
 /// fewer where the run ends or reaches its limit; a turn that calls a function looks it up. A look finds the function's
 /// current version, or its base body. A compilation makes the version of its passes, claims for it the first free words, and
@@ -33,7 +37,7 @@ const TABLE_WORDS: u32 = 1_048_576;
 /// the versions that were published, and agrees with the base run. No look finds an older version of a function than an
 /// earlier look did, of whatever run.
 pub fn play(alloc: Global, checked: &Checked, events: &Events) -> Result<Played, NoMemory>
-    requires fits { FitsEvents checked.now events.now }
+    requires fits { CanPlay checked.now events.now }
     ensures { IfOk result (IsPlay checked.now 1048576 events.now) }
 {
     let played = play_in(alloc, checked, events, TABLE_WORDS)?;
@@ -47,7 +51,7 @@ pub(crate) fn play_in(
     events: &Events,
     words: u32,
 ) -> Result<Played, NoMemory>
-    requires fits { FitsEvents checked.now events.now }
+    requires fits { CanPlay checked.now events.now }
     ensures { IfOk result (IsPlay checked.now words events.now) }
 {
     let _program = checked.program();

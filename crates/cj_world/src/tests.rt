@@ -1,12 +1,15 @@
 //! Plays of the events of replays.
 
+ghost use Rattle.std.specs.Prelude.{◌<◌, length, IfOk};
+ghost use Rattle.cj_ir.specs.declared.language.Program.{Program};
+ghost use Rattle.cj_events.specs.Playable.{CanPlay};
+
 use crate::plays::play_in;
-use crate::{Compiled, Played, play};
-use cj_base::End;
+use crate::{Compiled, Event, Events, Played, parse_replay, play};
+use cj_base::{End, Waiting};
 use cj_calls::{Look, Note, Report};
-use cj_draft::{Skipped, Skips};
-use cj_events::parse_replay;
-use cj_ir::{FunId, Label};
+use cj_draft::{Pass, Passes, Room, Skipped};
+use cj_ir::{FunId, Guard, Guards, Label, Labels, NoMemory, Reg};
 use std::alloc::Global;
 use std::process::Abort;
 use std::test::Fail;
@@ -102,22 +105,194 @@ fn next_call_enters_what_was_compiled_meanwhile(rt: HostRuntime) -> Result<(), F
     Ok(())
 }
 
-fn are_both_skipped(skips: &[Skips]) -> bool {
-    let [skips] = skips else {
+// What a replay's one compilation skips, by the numbers of its passes, and where its version begins.
+type Compilation<'a> = (&'a str, &'a [(u32, Skipped)], u64);
+
+const COMPILATIONS: &[Compilation<'_>] = &[
+    (
+        "fun main(n; r) { 1: op r = n + 1 -> 2 2: print r -> 3 3: return r }
+        events compile main { anchors 9 assume 3 when never }",
+        &[
+            (0, Skipped::NoPlace { label: Label(9) }),
+            (1, Skipped::NoPlace { label: Label(3) }),
+        ],
+        2,
+    ),
+    // two edges lead to the end of the path
+    (
+        "fun main(n) { 1: cond n -> 2, 3 2: print 1 -> 3 3: return n }
+        events compile main { anchors 0 delay 3 0 2 when never }",
+        &[(
+            1,
+            Skipped::Joined {
+                label: Label(2),
+                count: 2,
+            },
+        )],
+        2,
+    ),
+    // the path prints
+    (
+        "fun main(n) { 1: cond n -> 2, 3 2: print 1 -> 4 3: print 2 -> 4 4: return n }
+        events compile main { anchors 0 delay 4 0 1 3 when never }",
+        &[(1, Skipped::NotSilent { label: Label(1) })],
+        2,
+    ),
+    // a `cond` is no call, and the call behind it is inlined
+    (
+        "fun main(n; r) { 1: cond n -> 2, 5 2: call r = acc(n) -> 3 3: print r -> 4
+        4: op n = n - 1 -> 1 5: return r }
+        fun acc(x; t) { 1: op t = t + x -> 2 2: return t }
+        events compile main { inline 0 inline 1 }",
+        &[(0, Skipped::NotCall { label: Label(0) })],
+        3,
+    ),
+];
+
+fn is_compiled(played: &Played, skipped: &[(u32, Skipped)], offset: u64) -> bool {
+    let [skips] = played.skips.items() else {
         return false;
     };
-    let first = (0, Skipped::NoPlace { label: Label(9) });
-    let second = (1, Skipped::NoPlace { label: Label(3) });
-    skips.items() == [first, second].as_slice()
+    skips.items() == skipped
+        && played.compiled.items() == [Compiled::Published { offset }].as_slice()
 }
 
 #[test]
-fn labels_that_are_not_there_are_skipped(rt: HostRuntime) -> Result<(), Fail> {
-    let text = b"fun main(n; r) { 1: op r = n + 1 -> 2 2: print r -> 3 3: return r }
-        events compile main { anchors 9 assume 3 when never }";
+fn passes_that_do_not_fit_are_skipped(rt: HostRuntime) -> Result<(), Fail> {
+    for &(text, skipped, offset) in COMPILATIONS {
+        let played = played(rt.alloc(), text.as_bytes())?;
+        assert!(rt; is_compiled(&played, skipped, offset), "{text:?}");
+    }
+    Ok(())
+}
+
+// Passes that no text has: an empty list, nine guards, a register and a label past all that there are, an empty path.
+fn passes_of_no_text(alloc: Global) -> Result<Passes, NoMemory> {
+    let mut places = Labels::new(alloc);
+    places.push(Label(0))?;
+    let mut nine = Guards::new(alloc);
+    for _ in 0..9 {
+        nine.push(Guard::Never)?;
+    }
+    let mut far = Guards::new(alloc);
+    far.push(Guard::Is {
+        reg: Reg(200),
+        value: 1,
+    })?;
+    let mut passes = Passes::new(alloc);
+    passes.push(Pass::Anchors { places })?;
+    passes.push(Pass::Anchors {
+        places: Labels::new(alloc),
+    })?;
+    passes.push(Pass::Assume {
+        anchor: Label(2),
+        guards: nine,
+    })?;
+    passes.push(Pass::Assume {
+        anchor: Label(2),
+        guards: far,
+    })?;
+    passes.push(Pass::Delay {
+        path: Labels::new(alloc),
+        guards: Guards::new(alloc),
+    })?;
+    passes.push(Pass::Inline { call: Label(70000) })?;
+    Ok(passes)
+}
+
+// The first function is compiled.
+fn compilation(alloc: Global, passes: Passes) -> Result<Events, NoMemory>
+    ensures { IfOk result (λ events. (p : Program) → 0 < length p.functions → CanPlay p events) }
+{
+    let mut events = Events::new(alloc);
+    events.push(Event::Compile {
+        function: MAIN,
+        passes,
+    })?;
+    Ok(events)
+}
+
+#[test]
+fn events_that_no_text_has_are_played(rt: HostRuntime) -> Result<(), Fail> {
+    let alloc = rt.alloc();
+    let (checked, _none) = parse_replay(
+        alloc,
+        b"fun main(n) { 1: print n -> 2 2: return n } events",
+    )?;
+    assert!(rt; !checked.program().functions.items().is_empty());
+    let events = compilation(alloc, passes_of_no_text(alloc)?)?;
+    let played = play(alloc, &checked, &events)?;
+    let skipped = [
+        (
+            2,
+            Skipped::Full {
+                room: Room::Guards,
+                count: 9,
+            },
+        ),
+        (3, Skipped::NoRegister { reg: Reg(200) }),
+        (4, Skipped::NoEdge { label: Label(0) }),
+        (
+            5,
+            Skipped::NoPlace {
+                label: Label(70000),
+            },
+        ),
+    ];
+    assert!(rt; is_compiled(&played, &skipped, 2));
+    Ok(())
+}
+
+fn is_waiting(waiting: &Waiting, function: FunId) -> bool {
+    waiting.function == function
+        && waiting.label == Label(1)
+        && waiting.regs.items() == [5, 0].as_slice()
+        && waiting.dest == Reg(1)
+}
+
+fn rebuilds_three_frames(reports: &[Report]) -> bool {
+    let [report] = reports else {
+        return false;
+    };
+    let [note] = report.notes.items() else {
+        return false;
+    };
+    let [mid, main] = note.waiting.items() else {
+        return false;
+    };
+    note.turn == 3
+        && note.top.function == FunId(2)
+        && note.top.label == Label(1)
+        && note.top.regs.items() == [5].as_slice()
+        && is_waiting(mid, FunId(1))
+        && is_waiting(main, MAIN)
+}
+
+#[test]
+fn two_inlined_frames_are_noted(rt: HostRuntime) -> Result<(), Fail> {
+    let text = b"fun main(n; r) { 1: call r = mid(n) -> 2 2: return r }
+        fun mid(x; y) { 1: call y = low(x) -> 2 2: op y = y + 1 -> 3 3: return y }
+        fun low(z) { 1: print z -> 2 2: return z }
+        events compile main { inline 0 inline 2 anchors 6 assume 7 when never } begin main 5 limit 100";
     let played = played(rt.alloc(), text)?;
-    assert!(rt; are_both_skipped(played.skips.items()));
-    assert!(rt; played.compiled.items() == [Compiled::Published { offset: 2 }].as_slice());
+    assert!(rt; rebuilds_three_frames(played.reports.items()));
+    Ok(())
+}
+
+fn looks_twice(reports: &[Report]) -> bool {
+    let [report] = reports else {
+        return false;
+    };
+    report.looks.items() == [look(MAIN, 2), look(MAIN, 2)].as_slice()
+}
+
+#[test]
+fn a_recursive_sum_inlined_once_looks_half_as_often(rt: HostRuntime) -> Result<(), Fail> {
+    let text = b"fun sum(k; r) { 1: cond k -> 2, 4 2: op r = k - 1 -> 3 3: call r = sum(r) -> 5
+        4: return 0 5: op r = r + k -> 6 6: return r }
+        events compile sum { inline 2 const } begin sum 3 limit 100";
+    let played = played(rt.alloc(), text)?;
+    assert!(rt; looks_twice(played.reports.items()));
     Ok(())
 }
 

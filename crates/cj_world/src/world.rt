@@ -5,8 +5,7 @@ ghost use Rattle.std.specs.List.{AllZip};
 ghost use Rattle.cj_ir.specs.declared.language.Program.{Program};
 ghost use Rattle.cj_base.specs.Run.{begun};
 ghost use Rattle.cj_spelling.specs.Counting.{capped};
-ghost use Rattle.cj_script.specs.Fitting.{FitsCall};
-ghost use Rattle.cj_events.specs.Fitting.{FitsEvent};
+ghost use Rattle.cj_events.specs.Playable.{CanBegin, CanHappen};
 ghost use Rattle.cj_events.specs.Tallies.{begun_by};
 ghost use Rattle.cj_world.specs.declared.played.Compiled.TheVariants.{TooLarge};
 ghost use Rattle.cj_world.specs.Worlds.{codes_in, first_world, begins, steps, finishes, finished, words_in, claimed, published};
@@ -68,7 +67,7 @@ impl<'p> World<'p> {
 
     /// An event happens.
     pub fn happen(&mut self, event: &'p Event) -> Result<(), NoMemory>
-        requires fits { FitsEvent self.old.cache.checked.now.functions (length self.old.runs.items) event.now }
+        requires fits { CanHappen self.old.cache.checked.now.functions (length self.old.runs.items) event.now }
         requires orderly { Orderly self.old }
         ensures made { OnOk result (Happens self.old.cache.checked.now self.old.words event.now (world_of self.old) (world_of self.new)) }
         ensures begun { OnOk result (length self.new.runs.items ≡ length self.old.runs.items + begun_by event.now) }
@@ -85,7 +84,7 @@ impl<'p> World<'p> {
 
     /// A run of the call begins.
     fn begin(&mut self, call: &'p ScriptCall) -> Result<(), NoMemory>
-        requires fits { FitsCall self.old.cache.checked.now.functions call.now }
+        requires fits { CanBegin self.old.cache.checked.now.functions call.now }
         requires orderly { Orderly self.old }
         ensures made { OnOk result (world_of self.new ≡ begins self.old.cache.checked.now (begun call.now) (world_of self.old)) }
         ensures begun { OnOk result (length self.new.runs.items ≡ length self.old.runs.items + 1) }

@@ -1,14 +1,18 @@
-use Rattle.std.proofs.Common.{◌∙◌, map, sym, ap, subst}
+use Rattle.std.proofs.Common.{◌∙◌, List, Option, map, sym, ap₂, subst}
+use Rattle.std.specs.Prelude.{ℤ}
 use Rattle.cj_draft.specs.declared.code.Code.{Code}
 use Rattle.cj_const.specs.Flow.{IsStrongest}
 use Rattle.cj_const.specs.Search.{facts_in}
 use Rattle.cj_const.proofs.SearchEnds.{search-ends}
 use Rattle.cj_const.proofs.search.strongest.Goals as goal
 
+abbrev Row : Type 0
+Row = List (Option ℤ)
+
 pub returns : goal.returns
 returns c =
     let draft = c.args.draft.now in
     let rows = c.step.new.self.rows in
     let w = c.step.new.self.waiting in
-    subst (IsStrongest draft.context draft.code) (sym (c.in_ok-table.ensures ∙ ap (λ (z : Code). map (facts_in z.regs) rows) c.code.ensures.same))
+    subst (IsStrongest draft.context draft.code) (sym (c.in_ok-table.ensures ∙ ap₂ (λ (z : Code) (rs : List (Option Row)). map (facts_in z.regs) rs) c.code.ensures.same c.items.ensures))
     (search-ends draft.context draft.code rows w c.in_ok-step.ensures.search (c.in_ok-step.ensures.done c.if-branch.false))

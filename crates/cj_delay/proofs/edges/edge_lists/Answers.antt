@@ -1,9 +1,9 @@
 use Rattle.std.proofs.Common.{◌≡◌, ◌∙◌, ℕ, List, length, ap, sym, subst, arith}
 use Rattle.std.specs.Prelude.{All}
 use Rattle.cj_draft.specs.declared.code.Place.{Place}
-use Rattle.cj_links.specs.EdgeTable.{given, IsBetween}
+use Rattle.cj_links.specs.EdgeTable.{given, IsInto}
 use Rattle.cj_delay.specs.CountedEdges.{edges_of}
-use Rattle.cj_delay.proofs.Counted.{few_edges, edges_between, are_counted}
+use Rattle.cj_delay.proofs.Counted.{few_edges, edges_into_labels, are_counted}
 use Rattle.cj_delay.proofs.edges.edge_lists.Goals as goal
 
 edges_are : (c : goal.After-items-3) → c.items-3.result.now ≡ edges_of 0 c.args.code.now.places
@@ -12,12 +12,12 @@ edges_are c = c.items-3.ensures ∙ c.in_ok-edges.ensures ∙ ap (edges_of 0) c.
 pub of-requires-clause-few : goal.of-requires-clause-few
 of-requires-clause-few c = omega (arith, ap length (edges_are c), few_edges 0 c.args.code.now.places, c.requires.few)
 
-pub of-requires-clause-between : goal.of-requires-clause-between
-of-requires-clause-between c =
+pub of-requires-clause-into : goal.of-requires-clause-into
+of-requires-clause-into c =
     let places = c.args.code.now.places in
-    let between = edges_between (length places) 0 places (omega arith) c.requires.closed.within in
-    subst (λ (n : ℕ). All (IsBetween n) c.items-3.result.now) (ap length (sym c.items-2.ensures))
-    (subst (All (IsBetween (length places))) (sym (edges_are c)) between)
+    let into = edges_into_labels (length places) 0 places c.requires.closed.within in
+    subst (λ (n : ℕ). All (IsInto n) c.items-3.result.now) (ap length (sym c.items-2.ensures))
+    (subst (All (IsInto (length places))) (sym (edges_are c)) into)
 
 pub returns : goal.returns
 returns c =

@@ -1,5 +1,7 @@
-use Rattle.cj_driver.specs.declared.command.Task.TheVariants.{OnReplay}
+use Rattle.cj_events.specs.Replays.{ReadsReplay}
+use Rattle.cj_driver.proofs.Ends.{bytes_stop}
 use Rattle.cj_driver.proofs.reading.read_replay.Goals as goal
 
 pub returns-in-Err-clause-stop : goal.returns-in-Err-clause-stop
-returns-in-Err-clause-stop g c = λ stats. c.in-Err.ensures.stop (OnReplay stats)
+returns-in-Err-clause-stop g c =
+    bytes_stop ReadsReplay (g.S.Source.left c.args.source.now) (g.S.Source.left c.read_bytes.new.source) (g.S.Source.faults c.args.source.now) (g.S.Source.faults c.read_bytes.new.source) c.in-Err.stop c.in-Err.ensures.stop

@@ -1,15 +1,14 @@
-use Rattle.std.proofs.Common.{◌≡◌, ◌∙◌, ◌+◌, ◌≤◌, sym, ap, subst, ℕ, List, [], length}
+use Rattle.std.proofs.Common.{◌≡◌, ◌∙◌, ◌+◌, ◌≤◌, sym, ap, subst, ℕ, List, length, drop}
 use Rattle.std.specs.List.{AllZip}
 use Rattle.std.proofs.lemmas.List.{length-map}
 use Rattle.cj_ir.specs.declared.language.Program.{Program}
 use Rattle.cj_events.specs.declared.events.Event.{Event}
-use Rattle.cj_events.specs.Fitting.{EachFits}
-use Rattle.cj_events.specs.Tallies.{begun_by}
+use Rattle.cj_events.specs.Playable.{EachCanHappen}
 use Rattle.cj_world.specs.Worlds.{World, codes_in, first_world, finished}
 use Rattle.cj_world.specs.Plays.{Happens, AllHappen}
 use Rattle.cj_world.specs.Caches.{made_in}
 use Rattle.cj_world.specs.Running.{run_of, world_of, IsToldOf}
-use Rattle.cj_world.proofs.Playing.{happened_more, happened_all, each_more, runs_more}
+use Rattle.cj_world.proofs.Playing.{happened_more, happened_all, next_can}
 use Rattle.cj_world.proofs.Answering.{answers}
 use Rattle.cj_world.proofs.plays.play_in.Goals as goal
 
@@ -23,8 +22,10 @@ loop-event-init c =
       happened = λ after rest. subst (λ (w : World). AllHappen P c.args.words es w after) e.made rest;
       checked = e.checked;
       words = e.words;
-      begun = sym (length-map c.in_ok-world.world.runs.items run_of) ∙ ap (λ (w : World). length w.runs) e.made;
-      each = subst (λ (xs : List Event). EachFits P.functions [] xs) (sym c.items-event-items.ensures) c.requires.fits.each;
+      can = let none : length c.in_ok-world.world.runs.items ≡ 0 =
+          sym (length-map c.in_ok-world.world.runs.items run_of) ∙ ap (λ (w : World). length w.runs) e.made in
+          subst (λ (n : ℕ). EachCanHappen P.functions n es) (sym none)
+          (subst (λ (xs : List Event). EachCanHappen P.functions 0 xs) (sym c.items-event-items.ensures) c.requires.fits);
       orderly = e.orderly;
     }
 
@@ -44,8 +45,8 @@ loop-event-preserved c =
       happened = happened_more P c.args.words es (first_world P) k w v event lt c.event-item.is happens i.happened;
       checked = e.checked ∙ i.checked;
       words = e.words ∙ i.words;
-      begun = e.begun ∙ ap (λ (n : ℕ). n + begun_by event) i.begun ∙ sym (runs_more es k event lt c.event-item.is);
-      each = (each_more P.functions es k event lt c.event-item.is i.each).1;
+      can = let later = (next_can P.functions es k (length c.loop-event.world.runs.items) event lt c.event-item.is i.can).1 in
+          subst (λ (n : ℕ). EachCanHappen P.functions n (drop (k + 1) es)) (sym e.begun) later;
       orderly = e.orderly;
     }
 

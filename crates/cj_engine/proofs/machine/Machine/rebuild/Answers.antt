@@ -8,4 +8,4 @@ pub returns-clause-made : goal.returns-clause-made
 unfolding state_of rebuilt frames_rebuilt
 returns-clause-made c = λ P.
     let frames = c.in_ok-top.ensures P in
-    rw (← c.top_registers.ensures, ← frames, c.in_ok-keep_note.ensures, c.in_ok-rebuild.ensures.ok, c.from.ensures) refl
+    rw (← c.top_registers.ensures, ← frames, c.in_ok-take_place.ensures.notes, c.in_ok-take_place.ensures.activations, c.from.ensures) refl

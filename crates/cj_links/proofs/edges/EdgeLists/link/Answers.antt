@@ -1,7 +1,7 @@
 use Rattle.std.proofs.Common.{◌<◌, length, sym, ap, ◌∙◌, subst, arith}
 use Rattle.cj_links.specs.EdgeTable.{EdgeTable, end_of, linked, IsLinked}
 use Rattle.cj_links.specs.Threads.{before_of, walks, table_of}
-use Rattle.cj_links.proofs.Threading.{link_seen, few_counted, between_labels, node_within, last_member}
+use Rattle.cj_links.proofs.Threading.{link_seen, few_counted, into_labels, node_within, last_member}
 use Rattle.cj_links.proofs.edges.EdgeLists.link.Goals as goal
 
 pub lead-requires-clause-one : goal.lead-requires-clause-one
@@ -9,7 +9,7 @@ lead-requires-clause-one c =
     let t = c.self.inside in
     let inside : c.args.edge.0 < length t.edges = subst (λ (v : EdgeTable). c.args.edge.0 < length v.edges) (sym c.self.view_is) c.requires.edge in
     let n = (end_of (table_of t.nodes t.counts t.edges) c.args.edge).0 in
-    let within = between_labels t.nodes t.counts t.edges c.self.invariant c.args.edge inside in
+    let within = into_labels t.nodes t.counts t.edges c.self.invariant c.args.edge inside in
     rw (c.items-3.ensures, c.items.ensures)
     (node_within (length t.counts) t.nodes t.counts t.edges (walks (length t.counts) t.nodes t.counts) c.self.invariant n (before_of t.nodes n) within
     (last_member (length t.counts) t.nodes t.counts t.edges (walks (length t.counts) t.nodes t.counts) c.self.invariant n within))

@@ -3,7 +3,6 @@ use Rattle.std.specs.Prelude.{slice_get}
 use Rattle.cj_base.specs.Run.{begun}
 use Rattle.cj_engine.specs.Versions.{Codes, Continues}
 use Rattle.cj_engine.specs.VersionRuns.{version_start}
-use Rattle.cj_engine.specs.Machines.{state_of}
 use Rattle.cj_engine.specs.Marks.{start_marks}
 use Rattle.cj_engine.specs.Engines.{IsRun}
 use Rattle.cj_world.specs.Worlds.{looks_of}
@@ -16,22 +15,23 @@ unfolding run_of progress_by
 returns-clause-made c =
     let e = c.in_ok-engine.ensures in
     let P = c.args.checked.now in
-    let looks = c.in_ok-engine.engine.machine.looks in
+    let looks = c.in_ok-engine.engine.looks in
     let call = begun c.args.call.now in
     let old = c.args.cache.now in
-    let same = same_codes old c.start.new.watch e.stays in
-    let made = subst (λ (codes : Codes). version_start P codes (slice_get looks 0) call ≡ Continues (state_of c.in_ok-engine.engine.machine)) same e.made in
-    begun_same P _ old.current call looks (state_of c.in_ok-engine.engine.machine)
+    let same = same_codes old c.start.new.watch e.keeps.stays in
+    let made = subst (λ (codes : Codes). version_start P codes (slice_get looks 0) call ≡ Continues c.in_ok-engine.engine.state) same e.made in
+    begun_same P _ old.current call looks c.in_ok-engine.engine.state
     (gained_looks _ looks old.trail c.start.new.watch.trail (looks_of old.current (start_marks call)) e.gains e.went.trail)
     made
 
 pub returns-clause-fits : goal.returns-clause-fits
 returns-clause-fits c =
     let e = c.in_ok-engine.ensures in
-    let same = same_codes c.args.cache.now c.start.new.watch e.stays in
+    let same = same_codes c.args.cache.now c.start.new.watch e.keeps.stays in
     record {
-      checked = e.program;
+      program = e.program;
       takes = c.requires.fits.takes;
       running = λ none. e.running;
-      at = subst (λ (codes : Codes). IsRun c.args.checked.now codes c.in_ok-engine.engine.machine.looks (begun c.args.call.now) (state_of c.in_ok-engine.engine.machine)) same e.run;
+      used = e.run.used;
+      at = subst (λ (codes : Codes). IsRun c.args.checked.now codes c.in_ok-engine.engine.looks (begun c.args.call.now) c.in_ok-engine.engine.state) same e.run;
     }

@@ -19,7 +19,7 @@ loop-run-preserved c =
     let k = length c.loop-run.yielded in
     let fits : Fits P codes c.in-Some.run' = subst (λ (r : Run). Fits P codes r) (sym t.1) (c.requires.orderly.fit k c.in-Some.run' t.0) in
     let told : IsToldOf P codes c.in-Some.run' c.report.result = record {
-      read_off = c.report.ensures.read_off;
+      read_off = c.report.ensures.read_off P codes fits;
       takes = fits.takes;
       report = c.report.ensures.report P codes fits;
     } in

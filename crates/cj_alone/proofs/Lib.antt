@@ -1,0 +1,4 @@
+pub mod Keeping
+pub mod Warming
+pub mod Calling
+pub mod Stores

@@ -1,0 +1,12 @@
+//! The calls of a script on one thread, each followed by one work.
+#![tactic(auto)]
+
+mod preparing;
+mod rounds;
+mod running;
+mod seats;
+#[cfg(test)]
+mod tests;
+
+pub use preparing::prepare;
+pub use running::alone_with;

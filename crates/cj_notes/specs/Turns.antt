@@ -1,0 +1,54 @@
+-- The turns of a worker that works until all callers have finished.
+use Rattle.std.specs.Prelude.{◌≡◌, ℕ, ◌<◌, ◌≤◌, List, [], ◌∷◌, ◌++◌, All}
+use Rattle.cj_ir.specs.declared.language.Program.{Program}
+use Rattle.cj_profile.specs.declared.view.Read.{Read}
+use Rattle.cj_profile.specs.declared.layout.Word.TheVariants as word
+use Rattle.cj_profile.specs.Reads.{load}
+use Rattle.cj_publish.specs.declared.view.View.{View}
+use Rattle.cj_publish.specs.Learns.{Learns}
+use Rattle.cj_notes.specs.declared.notes.WorkNote.{WorkNote}
+use Rattle.cj_notes.specs.Causes.{kept}
+use Rattle.cj_notes.specs.Standing.{NotesAdd}
+use Rattle.cj_notes.specs.JobParts.{WorkPart}
+
+-- fewer callers had finished than there are, and one work was done
+pub record Turn : Type 0 where
+  pub finished : ℕ
+  pub note : WorkNote
+  pub part : List Read
+
+pub record IsTurn (P : Program) (callers : ℕ) (t : Turn) : Type 0 where
+  pub unfinished : t.finished < callers
+  pub work : WorkPart P t.note t.part
+
+unfoldable pub kept_notes : List Turn → List WorkNote
+kept_notes [] = []
+kept_notes (t ∷ ts) = kept t.note ++ kept_notes ts
+
+unfoldable pub turn_reads : List Turn → List Read
+turn_reads [] = []
+turn_reads (t ∷ ts) = (load word.Finished t.finished ∷ t.part) ++ turn_reads ts
+
+-- nothing was looked up or joined
+pub record WorksOn (v w : View) : Type 0 where
+  pub learns : Learns v w
+  pub joined : w.joined ≡ v.joined
+  pub lookups : w.lookups ≡ v.lookups
+
+-- So many turns were made. Each begins with a load of the count of finished callers, which found fewer than there are, and
+-- then comes the part of one work. The notes with a job are kept, and these alone have claimed words.
+pub record TurnsMade (P : Program) (callers : ℕ) (work : List WorkNote) (v w : View) (old new : List Read) : Type 0 where
+  pub on : WorksOn v w
+  pub turns : List Turn
+  pub each : All (IsTurn P callers) turns
+  pub are_kept : work ≡ kept_notes turns
+  pub reads : new ≡ old ++ turn_reads turns
+  pub notes : NotesAdd P v.taken w work
+
+-- the last load found that all callers have finished
+pub record TurnsDone (P : Program) (callers : ℕ) (work : List WorkNote) (v w : View) (old new : List Read) : Type 0 where
+  pub made : List Read
+  pub turns : TurnsMade P callers work v w old made
+  pub last : ℕ
+  pub finished : callers ≤ last
+  pub reads : new ≡ made ++ load word.Finished last ∷ []

@@ -1,0 +1,5 @@
+pub mod Parts
+pub mod PartsLaws
+pub mod Known
+pub mod Looks
+pub mod Calls

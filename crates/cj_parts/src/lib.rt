@@ -1,0 +1,2 @@
+//! What calls leave with their seats: lookups, versions read whole, and steps on the profile.
+#![tactic(auto)]

@@ -1,0 +1,14 @@
+pub mod Words
+pub mod Cells
+pub mod Spelled
+pub mod Seen
+pub mod Rule
+pub mod Views
+pub mod Reliable
+pub mod Plays
+pub mod Seated
+pub mod HeldOnce
+pub mod Seats
+pub mod Calls
+pub mod Fetched
+pub mod Learns

@@ -1,0 +1,62 @@
+-- The views that seats begin with, and those that steps leave.
+use Rattle.std.specs.Prelude.{ℕ, ◌+◌, max, true, false, Option, Some, None, List, [], ◌∷◌, ◌++◌}
+use Rattle.cj_ir.specs.declared.language.Program.{Program}
+use Rattle.cj_publish.specs.declared.view.Key.{Key}
+use Rattle.cj_publish.specs.declared.view.Claim.{Claim}
+use Rattle.cj_publish.specs.declared.view.Region.{Region}
+use Rattle.cj_publish.specs.declared.view.View.{View}
+use Rattle.cj_publish.specs.declared.view.Cell.{Cell}
+use Rattle.cj_publish.specs.declared.view.Told.{Told}
+use Rattle.cj_publish.specs.Cells.{key_in}
+
+-- the first seat of a new table has seen nothing
+abbrev pub fresh : Key → View
+fresh k = record { live = true; sole = true; key = k; next = 0; claim = None; regions = []; lookups = []; taken = 0; joined = [] }
+
+abbrev pub fresh_as : Told → View
+fresh_as t = fresh (key_in t)
+
+-- the seat is one of several from now on
+abbrev pub shared : View → View
+shared v = record v { sole = false }
+
+-- a new seat has seen what the old one has
+abbrev pub given : View → View
+given v = record v { sole = false; claim = None; lookups = []; taken = 0; joined = [] }
+
+abbrev pub no_program : Program
+no_program = record { functions = [] }
+
+-- what is left of a seat that was joined into another
+abbrev pub spent_view : View
+spent_view = record (fresh (record { program = no_program; slots = 0; size = 0 })) { live = false; sole = false }
+
+-- what both have seen and done
+abbrev pub joined_view : View → View → View
+joined_view v w = record v { next = max v.next w.next; regions = v.regions ++ w.regions; taken = v.taken + w.taken; joined = v.joined ++ w.lookups ∷ w.joined }
+
+abbrev pub with_next : View → ℕ → View
+with_next v n = record v { next = n }
+
+-- the n words from o on are claimed
+abbrev pub claiming : View → ℕ → ℕ → View
+claiming v o n = record v { next = o + n; claim = Some record { offset = o; len = n; written = [] }; taken = v.taken + n }
+
+abbrev pub with_claim : View → Option Claim → View
+with_claim v c = record v { claim = c }
+
+abbrev pub with_regions : View → List Region → View
+with_regions v rs = record v { regions = rs }
+
+abbrev pub with_region : View → Region → View
+with_region v r = with_regions v (r ∷ v.regions)
+
+abbrev pub with_look : View → Cell × ℕ → View
+with_look v x = record v { lookups = v.lookups ++ x ∷ [] }
+
+-- a claim with these words written, and with one word more
+abbrev pub filled : Claim → List ℕ → Claim
+filled c words = record c { written = words }
+
+abbrev pub appended : Claim → ℕ → Claim
+appended c x = filled c (c.written ++ x ∷ [])

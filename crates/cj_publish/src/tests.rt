@@ -1,0 +1,147 @@
+//! Two seats and the function that returns 0, and four seats in threads.
+
+ghost use Rattle.std.specs.Prelude.{◌≡◌, ◌+◌, ◌<◌, ◌≤◌, true, false, None, [], length, IfOk};
+ghost use Rattle.cj_draft.specs.declared.code.Code.{Code};
+ghost use Rattle.cj_draft.specs.Bodies.{IsNoAnchor, HasNoAnchors};
+ghost use Rattle.cj_publish.specs.Cells.{IsCell};
+ghost use Rattle.cj_publish.specs.Spelled.{SpellsVersion};
+ghost use Rattle.cj_publish.specs.Rule.{IsVersion};
+ghost use Rattle.cj_publish.specs.Seats.{view_of, key_of, program_of, IsSeatOf, Belongs, IsSame};
+ghost use Rattle.cj_publish.specs.Calls.{IsReady};
+ghost use Rattle.cj_publish.specs.Fetched.{main_of};
+
+use super::*;
+use cj_draft::{Code, Draft, Place, VInstr, Version};
+use cj_ir::{
+    Checked, FunId, Function, Functions, Instr, Line, Lines, Name, Names, Operand, Program, check,
+};
+use cj_spelling::laws::named_code_is_in_range;
+use cj_spelling::{Words, encode};
+use std::alloc::Global;
+use std::process::Abort;
+use std::test::Fail;
+
+pub(crate) const MAIN: FunId = FunId(0);
+
+// `fun NAME() { 1: return 0 }`
+fn constant_zero(rt: &impl Abort, alloc: Global, name: &str) -> Result<Function, Fail> {
+    let name = Name::of(alloc, name.as_bytes())?.expect(rt, "a name");
+    let value = Operand::Const(0);
+    let mut code = Lines::new(alloc);
+    code.push(Line {
+        name: 1,
+        instr: Instr::Return { value },
+    })?;
+    Ok(Function {
+        name,
+        params: 0,
+        regs: Names::new(alloc),
+        code,
+    })
+}
+
+// A program of functions that return 0.
+pub(crate) fn zeros(rt: &impl Abort, alloc: Global, names: &[&str]) -> Result<Checked, Fail> {
+    let mut functions = Functions::new(alloc);
+    for name in names {
+        functions.push(constant_zero(rt, alloc, name)?)?;
+    }
+    Ok(check(Program { functions }).expect(rt, "a well-formed program"))
+}
+
+fn is_no_anchor(place: &Place) -> bool
+    ensures { result ≡ true → IsNoAnchor place.now.instr }
+{
+    match place.instr {
+        VInstr::Anchor { .. } => false,
+        _ => true,
+    }
+}
+
+fn has_no_anchors(code: &Code) -> bool
+    ensures { result ≡ true → HasNoAnchors code.now }
+{
+    for place in code.places.items() {
+        if !is_no_anchor(place) {
+            return false;
+        }
+    }
+    true
+}
+
+// The words of a function's base body.
+pub(crate) fn base_words(
+    rt: &impl Abort,
+    alloc: Global,
+    checked: &Checked,
+    f: FunId,
+) -> Result<Words, Fail>
+    requires { f.0 < length checked.now.functions }
+    ensures { IfOk result (λ words. SpellsVersion checked.now f 0 words) }
+{
+    let draft = Draft::of_base(alloc, checked, f)?;
+    let code = draft.code();
+    assert!(rt; has_no_anchors(code));
+    named_code_is_in_range(checked.program(), code);
+    Ok(encode(alloc, code)?)
+}
+
+// Whether words at that offset are claimed, which then are written.
+fn is_claimed(table: &CodeTable, seat: &mut CodeSeat, words: &[u64], at: u64) -> bool
+    requires own { Belongs table.now seat.old }
+    requires free { (view_of seat.old).claim ≡ None }
+    requires version { IsVersion (key_of table.now) (main_of MAIN) words.now }
+    ensures own { Belongs table.now seat.new × IsSame seat.old seat.new }
+    ensures ready { result ≡ true → IsReady (view_of seat.new) (main_of MAIN) }
+{
+    match table.claim(seat, words.len() as u32) {
+        Claim::Claimed { offset } => {
+            table.write_all(seat, words);
+            offset == at
+        }
+        Claim::Full { .. } => false,
+    }
+}
+
+#[test]
+fn of_two_versions_the_greater_offset_stays(rt: HostRuntime) -> Result<(), Fail> {
+    let alloc = rt.alloc();
+    let checked = zeros(&rt, alloc, &["main"])?;
+    assert!(rt; checked.program().functions.items().len() == 1);
+    let words = base_words(&rt, alloc, &checked, MAIN)?;
+    assert_eq!(rt; words.items().len(), 17);
+    let (table, mut low) = CodeTable::make(alloc, &checked, 100)?;
+    let mut high = table.split(&mut low);
+    assert!(rt; is_claimed(&table, &mut low, words.items(), 2));
+    assert!(rt; is_claimed(&table, &mut high, words.items(), 19));
+    let newer = table.publish(&mut high, MAIN);
+    assert!(rt; newer == Published::Published { offset: 19 });
+    let older = table.publish(&mut low, MAIN);
+    assert!(rt; older == Published::Older { mine: 2, found: 19 });
+    let found = table.lookup(&mut low, MAIN);
+    assert_eq!(rt; found, 19);
+    let version = table.fetch(alloc, &mut low, &checked, MAIN, found)?;
+    assert!(rt; version.code().places.items().len() == 1);
+    table.join(&mut low, high);
+    table.confirm(&mut low);
+    table.close(low);
+    Ok(())
+}
+
+#[test]
+fn a_full_table_keeps_its_versions(rt: HostRuntime) -> Result<(), Fail> {
+    let alloc = rt.alloc();
+    let checked = zeros(&rt, alloc, &["main"])?;
+    assert!(rt; checked.program().functions.items().len() == 1);
+    let words = base_words(&rt, alloc, &checked, MAIN)?;
+    let (table, mut seat) = CodeTable::make(alloc, &checked, 30)?;
+    assert_eq!(rt; table.lookup(&mut seat, MAIN), 0);
+    assert!(rt; is_claimed(&table, &mut seat, words.items(), 2));
+    let first = table.publish(&mut seat, MAIN);
+    assert!(rt; first == Published::Published { offset: 2 });
+    let second = table.claim(&mut seat, 17);
+    assert!(rt; second == Claim::Full { next: 19, need: 17 });
+    assert_eq!(rt; table.lookup(&mut seat, MAIN), 2);
+    table.close(seat);
+    Ok(())
+}

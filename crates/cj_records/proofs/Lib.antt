@@ -1,0 +1,9 @@
+pub mod Growth
+pub mod Published
+pub mod OneThread
+pub mod Roles
+pub mod Joins
+pub mod Sharing
+pub mod InScript
+pub mod Standing
+pub mod Worked

@@ -1,0 +1,7 @@
+pub mod Calls
+pub mod Roles
+pub mod Slots
+pub mod Dealt
+pub mod Joined
+pub mod Piles
+pub mod Ran

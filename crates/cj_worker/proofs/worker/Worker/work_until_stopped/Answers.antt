@@ -1,0 +1,22 @@
+use Rattle.std.proofs.Common.{Bool, subst}
+use Rattle.cj_worker.specs.Workers.{TurnMade}
+use Rattle.cj_worker.proofs.Turning.{stays_same, stays_twice, no_turn, one_turn}
+use Rattle.cj_worker.proofs.worker.Worker.work_until_stopped.Goals as goal
+
+pub loop-init : goal.loop-init
+loop-init g c = record {
+  ready = c.requires.ready;
+  stays = stays_same c.args.self.now;
+  turns = no_turn c.args.callers c.new-work.result c.args.self.now c.new-work.ensures;
+}
+
+pub loop-preserved : goal.loop-preserved
+loop-preserved g c =
+    let i = c.loop.invariant in
+    let h = c.in_ok-turn.ensures in
+    let made = subst (λ (b : Bool). TurnMade c.args.callers b c.loop.work c.turn.new.work c.loop.self c.turn.new.self) c.if-branch.false h.made in
+    record {
+      ready = h.ready;
+      stays = stays_twice c.args.self.now c.loop.self c.turn.new.self i.stays h.stays;
+      turns = one_turn c.args.callers c.loop.work c.turn.new.work c.args.self.now c.loop.self c.turn.new.self i.stays i.turns made;
+    }
