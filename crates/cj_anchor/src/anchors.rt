@@ -6,6 +6,7 @@ ghost use Rattle.cj_rows.specs.Edges.{led_place, IsClosed};
 ghost use Rattle.cj_rows.specs.Tables.{IsTable, given};
 ghost use Rattle.cj_anchor.specs.AnchorInsertion.{anchor_offence, IsAnchored, AreAnchored};
 ghost use Rattle.cj_anchor.specs.OneAnchor.{IsAnchorStep, IsAnchorPlace};
+ghost use Rattle.cj_draft.specs.declared.limits.TheConstants.{MAX_CODE_LABELS};
 
 use cj_draft::{Code, Draft, Place, Places, Skipped, Skips, VInstr, led_to, told};
 use cj_ir::{Duplicate, Label, Labels, NoMemory};
@@ -37,7 +38,7 @@ fn insert_anchor(
     skips: &mut Skips,
 ) -> Result<Code, NoMemory>
     requires closed { IsClosed code }
-    requires few { length code.places ≤ 512 }
+    requires few { length code.places ≤ MAX_CODE_LABELS }
     ensures { IfOk result (λ made. IsAnchorStep code index label made skips.old skips.new) }
 {
     if let Some(skipped) = anchor_offence(&code, label) {
@@ -50,7 +51,7 @@ fn insert_anchor(
 /// Why no Anchor stands before the label.
 #[tactic(auto, unfolding(crate::specs::AnchorInsertion::anchor_offence, crate::specs::AnchorInsertion::offence_at))]
 fn anchor_offence(code: &Code, label: Label) -> Option<Skipped>
-    requires { length code.now.places ≤ 512 }
+    requires { length code.now.places ≤ MAX_CODE_LABELS }
     ensures { result ≡ anchor_offence code.now label }
 {
     let labels = code.places.items().len() as u32;
@@ -63,7 +64,7 @@ fn anchor_offence(code: &Code, label: Label) -> Option<Skipped>
 /// The code with a fresh Anchor before the label.
 fn anchored(code: Code, label: Label) -> Result<Code, NoMemory>
     requires closed { IsClosed code }
-    requires few { length code.places ≤ 512 }
+    requires few { length code.places ≤ MAX_CODE_LABELS }
     requires within { label.0 < length code.places }
     ensures { IfOk result (IsAnchored code label) }
 {
@@ -83,7 +84,7 @@ fn anchored(code: Code, label: Label) -> Result<Code, NoMemory>
 
 /// For each label, where an edge to it goes: to the Anchor from the one that it is before.
 fn table_to(alloc: Global, labels: usize, label: Label, anchor: Label) -> Result<Labels, NoMemory>
-    requires { labels ≤ 512 }
+    requires { labels ≤ MAX_CODE_LABELS }
     ensures { IfOk result (IsTable (led_to label anchor) labels) }
 {
     let mut table = Labels::new(alloc);

@@ -2,6 +2,7 @@
 
 ghost use Rattle.std.specs.Prelude.{◌≡◌, ◌<◌, ◌≤◌, None, IfOk, length};
 ghost use Rattle.cj_assume.specs.ImmediateAssume.{assume_offence, appended, inserted, assumed, assumed_or_left, IsAfter};
+ghost use Rattle.cj_draft.specs.declared.limits.TheConstants.{MAX_CODE_LABELS};
 
 use crate::offences::{assume_offence, guards_at};
 use crate::places::{anchor_to, assume_of, with_more};
@@ -39,7 +40,7 @@ pub fn immediate<'p>(
 /// The code with the guards assumed directly after the Anchor at a label.
 #[tactic(auto, unfolding(crate::specs::ImmediateAssume::assumed, crate::specs::ImmediateAssume::assumed_after, crate::specs::ImmediateAssume::assumed_by))]
 pub(crate) fn assumed(code: Code, anchor: Label, guards: &Guards) -> Result<Code, NoMemory>
-    requires few { length code.places ≤ 512 }
+    requires few { length code.places ≤ MAX_CODE_LABELS }
     ensures { IfOk result (λ made. made ≡ assumed code anchor guards.now) }
 {
     let Some(next) = anchor_at(&code, anchor) else {
@@ -75,7 +76,7 @@ fn appended(code: Code, label: Label, guards: &Guards) -> Result<Code, NoMemory>
 /// The code with a fresh Assume directly after the Anchor at a label.
 #[tactic(auto, unfolding(crate::specs::ImmediateAssume::inserted, crate::specs::ImmediateAssume::inserted_in, cj_draft::specs::Edges::fresh_label, cj_rows::specs::Places::with_places))]
 fn inserted(code: Code, anchor: Label, guards: &Guards) -> Result<Code, NoMemory>
-    requires few { length code.places ≤ 512 }
+    requires few { length code.places ≤ MAX_CODE_LABELS }
     ensures { IfOk result (λ made. made ≡ inserted code anchor guards.now) }
 {
     let index = anchor.0 as usize;

@@ -2,6 +2,7 @@
 
 ghost use Rattle.std.specs.Prelude.{◌≡◌, ◌≤◌, length};
 ghost use Rattle.cj_assume.specs.ImmediateAssume.{guards_at, full_offence, assume_offence};
+ghost use Rattle.cj_draft.specs.declared.limits.TheConstants.{MAX_CODE_LABELS};
 
 use cj_draft::{Code, Skipped, VInstr};
 use cj_ir::{Guard, Label};
@@ -10,7 +11,7 @@ use cj_rows::{anchor_next, fresh_row, guards_offence, register_offence, room_off
 /// Why no Assume with these guards stands directly after the Anchor: the first of the conditions that holds.
 #[tactic(auto, unfolding(crate::specs::ImmediateAssume::assume_offence, crate::specs::ImmediateAssume::offence_at, crate::specs::ImmediateAssume::offence_after, cj_rows::specs::Guards::or_next))]
 pub(crate) fn assume_offence(code: &Code, anchor: Label, guards: &[Guard]) -> Option<Skipped>
-    requires { length code.now.places ≤ 512 }
+    requires { length code.now.places ≤ MAX_CODE_LABELS }
     ensures { result ≡ assume_offence code.now anchor guards.now }
 {
     let Some(place) = code.places.items().get(anchor.0 as usize) else {
@@ -42,7 +43,7 @@ pub(crate) fn guards_at(code: &Code, label: Label) -> Option<usize>
 /// Which room is missing for that many guards, where the Assume after the Anchor has `own` already, or is a fresh one.
 #[tactic(auto, unfolding(crate::specs::ImmediateAssume::full_offence, cj_rows::specs::Guards::or_next))]
 fn full_offence(code: &Code, anchor: Label, count: usize, own: Option<usize>) -> Option<Skipped>
-    requires { length code.now.places ≤ 512 }
+    requires { length code.now.places ≤ MAX_CODE_LABELS }
     ensures { result ≡ full_offence code.now anchor count own }
 {
     match own {

@@ -1,5 +1,6 @@
 -- The steps by which an Assume comes to stand at the end of a path.
 use Rattle.std.specs.Prelude.{◌≡◌, ℕ, ◌<◌, ◌≤◌, List, [], ◌∷◌, ◌++◌, length, Some, slice_set}
+use Rattle.cj_draft.specs.declared.limits.TheConstants.{MAX_BACK}
 use Rattle.cj_ir.specs.declared.language.Label.{Label}
 use Rattle.cj_draft.specs.declared.points.Point.{Point}
 use Rattle.cj_draft.specs.declared.instructions.VInstr.{VInstr}
@@ -27,7 +28,7 @@ pub record BeginsPath (code : Code) (path : List Label) : Type 0 where
   pub target : Point
   pub next : Label
   pub instr : place.instr ≡ Anchor number target next
-  pub few : turns_back code path number ≤ 4
+  pub few : turns_back code path number ≤ MAX_BACK
 
 -- a place with one pair more, where it was missing
 pub record IsMarkedPlace (pair : Back) (place made : Place) : Type 0 where

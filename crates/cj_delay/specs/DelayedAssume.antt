@@ -1,6 +1,7 @@
 -- An Assume on the last edge of a path that an Anchor begins.
 use Rattle.std.specs.Prelude.{◌≡◌, ◌≢◌, ℕ, zero, suc, ◌+◌, ◌-◌, ◌<◌, ◌⊎◌, Bool, true, false, not, ◌&&◌, nat_lt, nat_eq, cond, List, [], ◌∷◌, ◌++◌, length, take, drop, count_by, Option, Some, None, slice_get, slice_set, slice_index_or}
 use Rattle.std.specs.List.{list_any}
+use Rattle.cj_draft.specs.declared.limits.TheConstants.{MAX_BACK}
 use Rattle.cj_ir.specs.declared.language.Label.{Label}
 use Rattle.cj_ir.specs.declared.language.Guard.{Guard}
 use Rattle.cj_ir.specs.declared.language.Program.{Program}
@@ -126,7 +127,7 @@ unfoldable pub turns_back : Code → List Label → ℕ → ℕ
 turns_back code path number = number + turns_before code path (length path - 1)
 
 unfoldable pub long_offence : ℕ → Option Skipped
-long_offence count = if_missing (nat_lt count 5) (TooLong (told count))
+long_offence count = if_missing (nat_le count MAX_BACK) (TooLong (told count))
 
 -- where the path's last label is `last`, and an Assume there takes so many turns back
 unfoldable pub end_offence : Code → Label → List Guard → ℕ → Option Skipped

@@ -8,6 +8,7 @@ ghost use Rattle.cj_draft.specs.Sound.{pair_of};
 ghost use Rattle.cj_rows.specs.Places.{with_places};
 ghost use Rattle.cj_delay.specs.DelayedAssume.{delay_offence, on_path, turn_at, turns_back, path_pair, AreMarked, led_edge, IsDelayed, IsAfterDelay};
 ghost use Rattle.cj_delay.specs.DelaySteps.{IsPathIn, BeginsPath, IsMarkedPlace, IsMarkedAt, IsFreshPlace, IsLed};
+ghost use Rattle.cj_draft.specs.declared.limits.TheConstants.{MAX_CODE_LABELS, MAX_BACK};
 
 use crate::edges::edge_lists;
 use crate::paths::{delay_offence, is_turn_at, on_path, turns_before};
@@ -55,7 +56,7 @@ pub fn delayed<'p>(
 
 /// The code with the guards assumed at the end of the path.
 pub(crate) fn delayed_code(code: Code, path: &[Label], guards: &Guards) -> Result<Code, NoMemory>
-    requires few { length code.places ≤ 512 }
+    requires few { length code.places ≤ MAX_CODE_LABELS }
     requires path { IsPathIn code path.now }
     requires begins { BeginsPath code path.now }
     ensures { IfOk result (IsDelayed code path.now guards.now) }
@@ -85,7 +86,7 @@ fn assume_at(
     target: &Point,
 ) -> Result<Place, NoMemory>
     requires path { IsPathIn code.now path.now }
-    requires short { turns_back code.now path.now number ≤ 4 }
+    requires short { turns_back code.now path.now number ≤ MAX_BACK }
     ensures { IfOk result (λ made. (last : Place) × (place_at code.now (on_path path.now (length path.now - 1)) ≡ Some last) × IsFreshPlace (Assume guards.now (turns_back code.now path.now number) target.now (on_path path.now (length path.now - 1))) last (path_pair code.now path.now target.now number (length path.now - 1)) made) }
 {
     let end = path.len() - 1;
@@ -127,7 +128,7 @@ fn fresh_place(last: &Place, instr: VInstr, turns: u32, target: &Point) -> Resul
 /// The code in which each label between the path's ends has its pair.
 fn marked(code: Code, path: &[Label], number: u32, target: &Point) -> Result<Code, NoMemory>
     requires path { IsPathIn code path.now }
-    requires short { turns_back code path.now number ≤ 4 }
+    requires short { turns_back code path.now number ≤ MAX_BACK }
     ensures same { IfOk result (λ made. made ≡ with_places code made.places) }
     ensures marked { IfOk result (λ made. AreMarked code path.now target.now number (length path.now - 1) made.places) }
 {
@@ -183,7 +184,7 @@ fn marked_place(place: &Place, turns: u32, target: &Point) -> Result<Place, NoMe
 
 /// The code with a fresh place, to which the edges from one label to another are led.
 fn led(code: Code, before: Label, last: Label, fresh: Place) -> Result<Code, NoMemory>
-    requires few { length code.places ≤ 512 }
+    requires few { length code.places ≤ MAX_CODE_LABELS }
     requires within { before.0 < length code.places }
     ensures { IfOk result (IsLed code before last fresh) }
 {

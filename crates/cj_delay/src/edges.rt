@@ -3,6 +3,7 @@
 ghost use Rattle.std.specs.Prelude.{◌≡◌, ◌+◌, ◌*◌, ◌^◌, ◌<◌, ◌≤◌, ◌++◌, IfOk, OnOk, OnErr, length};
 ghost use Rattle.cj_delay.specs.DelayedAssume.{edges_into};
 ghost use Rattle.cj_delay.specs.CountedEdges.{edges_from, edges_of, AreNextsWithin, AreCounted};
+ghost use Rattle.cj_draft.specs.declared.limits.TheConstants.{MAX_CODE_LABELS};
 
 use cj_draft::{Code, Place, Successors, VInstr};
 use cj_ir::{Label, NoMemory, Sequence};
@@ -13,7 +14,7 @@ type Edges = Sequence<(Label, Label)>;
 
 /// The edges between the labels of a code, in a list for each label.
 pub(crate) fn edge_lists(code: &Code) -> Result<EdgeLists, NoMemory>
-    requires few { length code.now.places ≤ 512 }
+    requires few { length code.now.places ≤ MAX_CODE_LABELS }
     requires closed { AreNextsWithin code.now.places }
     ensures { IfOk result (AreCounted code.now) }
 {
@@ -40,7 +41,7 @@ pub(crate) fn edges_into(code: &Code, lists: &EdgeLists, label: Label) -> usize
 
 /// The edges from these places, of which the first is label 0.
 fn edges_of(alloc: Global, places: &[Place]) -> Result<Edges, NoMemory>
-    requires { length places.now ≤ 512 }
+    requires { length places.now ≤ MAX_CODE_LABELS }
     ensures { IfOk result (λ made. made ≡ edges_of 0 places.now) }
 {
     let mut edges = Edges::new(alloc);

@@ -7,6 +7,7 @@ ghost use Rattle.cj_draft.specs.Edges.{listed};
 ghost use Rattle.cj_draft.specs.Arrives.{place_at};
 ghost use Rattle.cj_delay.specs.DelayedAssume.{nexts_in, is_label, is_silent, base_at, is_turn, is_passed, passed_in, on_path, turn_at, turns_before, is_edge, joined_offence, silent_offence, step_offence, steps_offence, long_offence, end_offence, anchor_number, offence_from, missing_offence, delay_offence};
 ghost use Rattle.cj_delay.specs.CountedEdges.{AreNextsWithin, AreCounted};
+ghost use Rattle.cj_draft.specs.declared.limits.TheConstants.{MAX_CODE_LABELS};
 
 use crate::edges::edges_into;
 use cj_draft::{Code, Point, Skipped, Successors, VInstr, limits, told};
@@ -28,7 +29,7 @@ pub(crate) fn delay_offence(
 ) -> Option<Skipped>
     requires counted { AreCounted code.now lists.now }
     requires closed { AreNextsWithin code.now.places }
-    requires few { length code.now.places ≤ 512 }
+    requires few { length code.now.places ≤ MAX_CODE_LABELS }
     ensures { result ≡ delay_offence program.now code.now path.now guards.now }
 {
     let first = on_path(path, 0);
@@ -73,7 +74,7 @@ fn offence_from(
 ) -> Option<Skipped>
     requires counted { AreCounted code.now lists.now }
     requires closed { AreNextsWithin code.now.places }
-    requires few { length code.now.places ≤ 512 }
+    requires few { length code.now.places ≤ MAX_CODE_LABELS }
     requires long { 2 ≤ length path.now }
     ensures { result ≡ offence_from program.now code.now path.now guards.now (Some number) }
 {
@@ -281,7 +282,7 @@ fn is_turn(instr: &VInstr) -> bool
 /// Which limit an Assume with these guards before the path's last label is above, where it takes so many turns back.
 #[tactic(auto, unfolding(crate::specs::DelayedAssume::end_offence, cj_rows::specs::Guards::or_next))]
 fn end_offence(code: &Code, last: Label, guards: &[Guard], back: usize) -> Option<Skipped>
-    requires { length code.now.places ≤ 512 }
+    requires { length code.now.places ≤ MAX_CODE_LABELS }
     ensures { result ≡ end_offence code.now last guards.now back }
 {
     if let Some(skipped) = long_offence(back) {

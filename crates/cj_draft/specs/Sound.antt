@@ -2,6 +2,7 @@
 use Rattle.std.specs.Prelude.{◌≡◌, ℕ, zero, suc, ◌⊎◌, Bool, true, List, [], length, All, Option, Some, None, ℤ, slice_set, ⊤}
 use Rattle.std.specs.List.{Contains}
 use Rattle.cj_ir.specs.WellFormed.{Takes}
+use Rattle.cj_draft.specs.declared.limits.TheConstants.{MAX_ROW}
 use Rattle.cj_ir.specs.declared.language.FunId.{FunId}
 use Rattle.cj_ir.specs.declared.language.Label.{Label}
 use Rattle.cj_ir.specs.declared.language.Reg.{Reg}
@@ -138,4 +139,4 @@ pub record Sound (P : Program) (context : List Fact) (f : FunId) (code : Code) :
   pub places : (label : Label) (place : Place) → place_at code label ≡ Some place →
       (regs m : List ℤ) → Admits code place regs →
       SoundEffect P code place regs m (version_effect place.instr regs m)
-  pub rows : (label : Label) → RowWithin code 8 label
+  pub rows : (label : Label) → RowWithin code MAX_ROW label

@@ -4,6 +4,7 @@ use Rattle.std.specs.Prelude.{◌≡◌, ℕ, ◌<◌, ◌≤◌, List, [], ◌�
 use Rattle.std.specs.List.Sorted.{IsStrictlyIncreasing}
 use Rattle.cj_ir.specs.Values.{IsOperandWithin, IsExprWithin}
 use Rattle.cj_ir.specs.WellFormed.{Takes, AllDifferBy}
+use Rattle.cj_draft.specs.declared.limits.TheConstants.{MAX_CODE_REGS, MAX_CODE_LABELS, MAX_FRAMES, MAX_GUARDS, MAX_BACK}
 use Rattle.cj_ir.specs.declared.language.FunId.{FunId}
 use Rattle.cj_ir.specs.declared.language.Program.{Program}
 use Rattle.cj_ir.specs.declared.language.Guard.{Guard}
@@ -42,7 +43,7 @@ AreDestsFine P (first ∷ others) = (first.dest.0 ≡ 0) × All (λ f. f.dest.0 
 
 pub record IsPointFine (P : Program) (regs : ℕ) (point : Point) : Type 0 where
   pub some_frame : 0 < length point.frames
-  pub few_frames : length point.frames ≤ 4
+  pub few_frames : length point.frames ≤ MAX_FRAMES
   pub frames : All (IsPointFrameFine P regs) point.frames
   pub dests : AreDestsFine P point.frames
 
@@ -79,8 +80,8 @@ IsVInstrFine P regs labels (Store address value next) =
     IsOperandWithin regs address × IsOperandWithin regs value × (next.0 < labels)
 IsVInstrFine P regs labels (Fail f label) = IsFailure (instr_at P f label)
 IsVInstrFine P regs labels (Assume guards back target next) =
-    (length guards ≤ 8) × All (IsGuardWithin regs) guards × (back ≤ 4) × IsPointFine P regs target × (next.0 < labels)
-IsVInstrFine P regs labels (Anchor back target next) = (back ≤ 4) × IsPointFine P regs target × (next.0 < labels)
+    (length guards ≤ MAX_GUARDS) × All (IsGuardWithin regs) guards × (back ≤ MAX_BACK) × IsPointFine P regs target × (next.0 < labels)
+IsVInstrFine P regs labels (Anchor back target next) = (back ≤ MAX_BACK) × IsPointFine P regs target × (next.0 < labels)
 
 -- ---- facts
 
@@ -96,7 +97,7 @@ HasFineFacts regs (Known facts) = AreFactsFine regs facts
 -- ---- places and codes
 
 pub record IsBackFine (P : Program) (regs : ℕ) (pair : Back) : Type 0 where
-  pub few_turns : pair.turns ≤ 4
+  pub few_turns : pair.turns ≤ MAX_BACK
   pub point : IsPointFine P regs pair.point
 
 pub record IsPlaceFine (P : Program) (regs labels : ℕ) (place : Place) : Type 0 where
@@ -108,9 +109,9 @@ pub record IsPlaceFine (P : Program) (regs labels : ℕ) (place : Place) : Type 
 pub record WellNamed (P : Program) (code : Code) : Type 0 where
   -- the function exists, and its parameters have registers
   pub params : IsSomeAnd (slice_get P.functions code.function.0) (λ f. f.params ≤ code.regs)
-  pub few_regs : code.regs ≤ 128
+  pub few_regs : code.regs ≤ MAX_CODE_REGS
   pub some_place : 0 < length code.places
-  pub few_places : length code.places ≤ 512
+  pub few_places : length code.places ≤ MAX_CODE_LABELS
   pub entry : code.entry.0 < length code.places
   pub places : All (IsPlaceFine P code.regs (length code.places)) code.places
 

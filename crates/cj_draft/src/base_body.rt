@@ -3,6 +3,7 @@
 ghost use Rattle.std.specs.Prelude.{◌≡◌, ◌<◌, ◌≤◌, [], length, IfOk};
 ghost use Rattle.cj_ir.specs.WellFormed.{IsWellFormed};
 ghost use Rattle.cj_draft.specs.BaseBody.{as_version, identity, base_point, base_place, base_places, base_code};
+ghost use Rattle.cj_ir.specs.declared.limits.TheConstants.{MAX_LABELS};
 
 use crate::code::{Backs, Code, Place, Places};
 use crate::drafts::Draft;
@@ -45,7 +46,7 @@ fn base_code(alloc: Global, program: &Program, f: FunId) -> Result<Code, NoMemor
 
 #[tactic(auto, using(crate::proofs::BasePlaces::base_places_none, crate::proofs::BasePlaces::base_places_more))]
 fn base_places(alloc: Global, f: FunId, regs: u32, lines: &[Line]) -> Result<Places, NoMemory>
-    requires { length lines.now ≤ 256 }
+    requires { length lines.now ≤ MAX_LABELS }
     ensures { IfOk result (λ places. places ≡ base_places f regs lines.now) }
 {
     let mut places = Places::new(alloc);

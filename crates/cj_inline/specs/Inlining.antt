@@ -1,5 +1,6 @@
 -- A callee's code in the place of a call.
 use Rattle.std.specs.Prelude.{◌≡◌, ℕ, ◌+◌, max, Bool, true, false, nat_lt, nat_eq, List, [], ◌∷◌, ◌++◌, length, map, Option, Some, None, slice_set}
+use Rattle.cj_draft.specs.declared.limits.TheConstants.{MAX_CODE_REGS, MAX_CODE_LABELS, MAX_FRAMES}
 use Rattle.cj_ir.specs.declared.language.FunId.{FunId}
 use Rattle.cj_ir.specs.declared.language.Label.{Label}
 use Rattle.cj_ir.specs.declared.language.Reg.{Reg}
@@ -75,11 +76,11 @@ if_deep false frames others = others
 -- so many registers, and then so many labels, are too many
 unfoldable pub full_offence : ℕ → ℕ → Option Skipped
 full_offence regs labels =
-    if_full (nat_lt 128 regs) Registers regs (if_full (nat_lt 512 labels) Labels labels None)
+    if_full (nat_lt MAX_CODE_REGS regs) Registers regs (if_full (nat_lt MAX_CODE_LABELS labels) Labels labels None)
 
 -- so many frames are too many, and then those
 unfoldable pub room_offence : ℕ → ℕ → ℕ → Option Skipped
-room_offence frames regs labels = if_deep (nat_lt 4 frames) frames (full_offence regs labels)
+room_offence frames regs labels = if_deep (nat_lt MAX_FRAMES frames) frames (full_offence regs labels)
 
 -- the conditions for the callee at a place that calls f
 unfoldable pub callee_offence : Code → Code → Place → FunId → Option Skipped

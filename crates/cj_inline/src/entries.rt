@@ -3,6 +3,7 @@
 ghost use Rattle.std.specs.Prelude.{◌≡◌, ◌+◌, ◌<◌, ◌≤◌, IfOk};
 ghost use Rattle.cj_draft.specs.Inlining.{entry_pairs, call_place};
 ghost use Rattle.cj_inline.specs.Entries.{entry_pair};
+ghost use Rattle.cj_draft.specs.declared.limits.TheConstants.{MAX_CODE_REGS};
 
 use cj_draft::{Pair, Pairs, Place, VInstr};
 use cj_ir::{Duplicate, Label, NoMemory, Operand, Reg};
@@ -18,7 +19,7 @@ pub(crate) fn call_place(
     args: &[Operand],
     place: &Place,
 ) -> Result<Place, NoMemory>
-    requires { regs + count ≤ 128 }
+    requires { regs + count ≤ MAX_CODE_REGS }
     ensures { IfOk result (λ made. made ≡ call_place regs count to args.now place.now) }
 {
     let pairs = entry_pairs(place.backs.allocator(), regs, args, count)?;
@@ -35,7 +36,7 @@ pub(crate) fn call_place(
 
 /// The assignments to the callee's registers, from `first` on.
 fn entry_pairs(alloc: Global, first: u32, args: &[Operand], count: u32) -> Result<Pairs, NoMemory>
-    requires { first + count ≤ 128 }
+    requires { first + count ≤ MAX_CODE_REGS }
     ensures { IfOk result (λ pairs. pairs ≡ entry_pairs first args.now count) }
 {
     let mut pairs = Pairs::new(alloc);
@@ -48,7 +49,7 @@ fn entry_pairs(alloc: Global, first: u32, args: &[Operand], count: u32) -> Resul
 /// The assignment to the callee's register of that number.
 #[tactic(auto, unfolding(crate::specs::Entries::entry_pair, crate::specs::Entries::or_zero))]
 fn entry_pair(first: u32, args: &[Operand], index: u32) -> Pair
-    requires { first + index < 128 }
+    requires { first + index < MAX_CODE_REGS }
     ensures { result ≡ entry_pair first args.now index }
 {
     let value = match args.get(index as usize) {

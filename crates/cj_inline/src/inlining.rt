@@ -4,6 +4,7 @@ ghost use Rattle.std.specs.Prelude.{◌≡◌, ◌+◌, ◌≤◌, [], IfOk, Non
 ghost use Rattle.cj_ir.specs.declared.language.Program.{Program};
 ghost use Rattle.cj_draft.specs.WellNamed.{WellNamed};
 ghost use Rattle.cj_inline.specs.Inlining.{inline_offence, inlined, inlined_or_left, IsAfter};
+ghost use Rattle.cj_draft.specs.declared.limits.TheConstants.{MAX_CODE_REGS};
 
 use crate::entries::call_place;
 use crate::offences::inline_offence;
@@ -52,7 +53,7 @@ pub fn inline<'p>(
 fn inlined(program: &Program, code: Code, call: Label, callee: &Code) -> Result<Code, NoMemory>
     requires code { WellNamed program.now code }
     requires callee { WellNamed program.now callee.now }
-    requires room { code.regs + callee.now.regs ≤ 128 }
+    requires room { code.regs + callee.now.regs ≤ MAX_CODE_REGS }
     ensures { IfOk result (λ made. made ≡ inlined program.now code call callee.now) }
 {
     let index = call.0 as usize;

@@ -6,6 +6,7 @@ ghost use Rattle.cj_draft.specs.Points.{IsPointWithin};
 ghost use Rattle.cj_draft.specs.WellNamed.{IsVInstrFine, HasFineFacts, IsPlaceFine};
 ghost use Rattle.cj_draft.specs.Inlining.{joined, joined_facts, inlined_instr};
 ghost use Rattle.cj_inline.specs.Inlining.{inlined_back, inlined_place};
+ghost use Rattle.cj_draft.specs.declared.limits.TheConstants.{MAX_CODE_REGS, MAX_CODE_LABELS};
 
 use crate::seams::{Seam, with_all};
 use crate::shifts::{shifted_all, shifted_expr, shifted_label, shifted_operand, shifted_reg};
@@ -16,8 +17,8 @@ use std::alloc::Global;
 /// A point of the callee, with the caller's frames after its own.
 #[tactic(auto, unfolding(cj_draft::specs::Inlining::joined))]
 fn joined(seam: &Seam, point: &Point) -> Result<Point, NoMemory>
-    requires few { seam.now.regs ≤ 128 }
-    requires within { IsPointWithin 128 point.now }
+    requires few { seam.now.regs ≤ MAX_CODE_REGS }
+    requires within { IsPointWithin MAX_CODE_REGS point.now }
     ensures { IfOk result (λ made. made ≡ joined seam.now.regs seam.now.frames point.now) }
 {
     let frames = shifted_all(&point.frames, seam.regs)?;
@@ -28,8 +29,8 @@ fn joined(seam: &Seam, point: &Point) -> Result<Point, NoMemory>
 /// What is known at the call and at the callee's place.
 #[tactic(auto, unfolding(cj_draft::specs::Inlining::joined_facts))]
 fn joined_facts(seam: &Seam, own: &Facts) -> Result<Facts, NoMemory>
-    requires few { seam.now.regs ≤ 128 }
-    requires within { HasFineFacts 128 own.now }
+    requires few { seam.now.regs ≤ MAX_CODE_REGS }
+    requires within { HasFineFacts MAX_CODE_REGS own.now }
     ensures { IfOk result (λ made. made ≡ joined_facts seam.now.regs seam.now.facts own.now) }
 {
     match (&seam.facts, own) {
@@ -56,9 +57,9 @@ fn one_pair(alloc: Global, dest: Reg, value: Operand) -> Result<Pairs, NoMemory>
 /// the call.
 #[tactic(auto, unfolding(cj_draft::specs::Inlining::inlined_instr))]
 fn inlined_instr(seam: &Seam, instr: &VInstr) -> Result<VInstr, NoMemory>
-    requires few_regs { seam.now.regs ≤ 128 }
-    requires few_labels { seam.now.labels ≤ 512 }
-    requires fine { (P : Program) × IsVInstrFine P 128 512 instr.now }
+    requires few_regs { seam.now.regs ≤ MAX_CODE_REGS }
+    requires few_labels { seam.now.labels ≤ MAX_CODE_LABELS }
+    requires fine { (P : Program) × IsVInstrFine P MAX_CODE_REGS MAX_CODE_LABELS instr.now }
     ensures { IfOk result (λ made. made ≡ inlined_instr seam.now.regs seam.now.labels seam.now.frames seam.now.dest seam.now.next instr.now) }
 {
     let regs = seam.regs;
@@ -164,8 +165,8 @@ fn inlined_instr(seam: &Seam, instr: &VInstr) -> Result<VInstr, NoMemory>
 
 #[tactic(auto, unfolding(crate::specs::Inlining::inlined_back))]
 fn inlined_back(seam: &Seam, pair: &Back) -> Result<Back, NoMemory>
-    requires few { seam.now.regs ≤ 128 }
-    requires within { IsPointWithin 128 pair.now.point }
+    requires few { seam.now.regs ≤ MAX_CODE_REGS }
+    requires within { IsPointWithin MAX_CODE_REGS pair.now.point }
     ensures { IfOk result (λ made. made ≡ inlined_back seam.now pair.now) }
 {
     let point = joined(seam, &pair.point)?;
@@ -176,8 +177,8 @@ fn inlined_back(seam: &Seam, pair: &Back) -> Result<Back, NoMemory>
 }
 
 fn inlined_backs(seam: &Seam, backs: &Backs) -> Result<Backs, NoMemory>
-    requires few { seam.now.regs ≤ 128 }
-    requires within { All (λ pair. IsPointWithin 128 pair.point) backs.now }
+    requires few { seam.now.regs ≤ MAX_CODE_REGS }
+    requires within { All (λ pair. IsPointWithin MAX_CODE_REGS pair.point) backs.now }
     ensures { IfOk result (λ made. made ≡ map (inlined_back seam.now) backs.now) }
 {
     let mut made = Backs::new(backs.allocator());
@@ -191,9 +192,9 @@ fn inlined_backs(seam: &Seam, backs: &Backs) -> Result<Backs, NoMemory>
 /// A place of the callee in its caller.
 #[tactic(auto, unfolding(crate::specs::Inlining::inlined_place))]
 fn inlined_place(seam: &Seam, place: &Place) -> Result<Place, NoMemory>
-    requires few_regs { seam.now.regs ≤ 128 }
-    requires few_labels { seam.now.labels ≤ 512 }
-    requires fine { (P : Program) × IsPlaceFine P 128 512 place.now }
+    requires few_regs { seam.now.regs ≤ MAX_CODE_REGS }
+    requires few_labels { seam.now.labels ≤ MAX_CODE_LABELS }
+    requires fine { (P : Program) × IsPlaceFine P MAX_CODE_REGS MAX_CODE_LABELS place.now }
     ensures { IfOk result (λ made. made ≡ inlined_place seam.now place.now) }
 {
     let instr = inlined_instr(seam, &place.instr)?;
@@ -214,9 +215,9 @@ pub(crate) fn with_callee(
     seam: &Seam,
     callee: &Places,
 ) -> Result<Places, NoMemory>
-    requires few_regs { seam.now.regs ≤ 128 }
-    requires few_labels { seam.now.labels ≤ 512 }
-    requires fine { (P : Program) × All (IsPlaceFine P 128 512) callee.now }
+    requires few_regs { seam.now.regs ≤ MAX_CODE_REGS }
+    requires few_labels { seam.now.labels ≤ MAX_CODE_LABELS }
+    requires fine { (P : Program) × All (IsPlaceFine P MAX_CODE_REGS MAX_CODE_LABELS) callee.now }
     ensures { IfOk result (λ made. made ≡ places ++ map (inlined_place seam.now) callee.now) }
 {
     'each: for place in callee.items() {

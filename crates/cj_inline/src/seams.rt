@@ -5,6 +5,7 @@ ghost use Rattle.cj_ir.specs.declared.language.Program.{Program};
 ghost use Rattle.cj_draft.specs.WellNamed.{IsPointFine};
 ghost use Rattle.cj_draft.specs.Inlining.{appended_frames};
 ghost use Rattle.cj_inline.specs.Inlining.{seam_at};
+ghost use Rattle.cj_draft.specs.declared.limits.TheConstants.{MAX_CODE_LABELS};
 
 use cj_draft::{Code, Facts, Frames, Place, Point, PointFrame};
 use cj_ir::{Duplicate, Instr, Label, NoMemory, Program, Reg, Sequence};
@@ -35,7 +36,7 @@ pub(crate) fn seam_at(
     dest: Reg,
     next: Label,
 ) -> Result<Seam, NoMemory>
-    requires few { length code.now.places ≤ 512 }
+    requires few { length code.now.places ≤ MAX_CODE_LABELS }
     requires point { IsPointFine program.now code.now.regs place.now.point }
     ensures { IfOk result (λ seam. seam ≡ seam_at program.now code.now place.now dest next) }
 {

@@ -5,14 +5,15 @@ ghost use Rattle.cj_ir.specs.Values.{IsOperandWithin, IsExprWithin};
 ghost use Rattle.cj_draft.specs.WellNamed.{IsGuardWithin};
 ghost use Rattle.cj_draft.specs.Operands.{with_operands};
 ghost use Rattle.cj_draft.specs.Inlining.{shift_reg, shift_label, shift_operand, shift_guard, shift_pair, shift_frame, shift_fact};
+ghost use Rattle.cj_draft.specs.declared.limits.TheConstants.{MAX_CODE_REGS, MAX_CODE_LABELS};
 
 use cj_draft::{Fact, Pair, PointFrame};
 use cj_ir::{Expr, Guard, Label, NoMemory, Operand, Reg, Sequence};
 
 #[tactic(auto, unfolding(cj_draft::specs::Inlining::shift_reg))]
 pub(crate) fn shifted_reg(by: u32, reg: Reg) -> Reg
-    requires few { by ≤ 128 }
-    requires within { reg.0 < 128 }
+    requires few { by ≤ MAX_CODE_REGS }
+    requires within { reg.0 < MAX_CODE_REGS }
     ensures { result ≡ shift_reg by reg }
 {
     Reg(by + reg.0)
@@ -20,8 +21,8 @@ pub(crate) fn shifted_reg(by: u32, reg: Reg) -> Reg
 
 #[tactic(auto, unfolding(cj_draft::specs::Inlining::shift_label))]
 pub(crate) fn shifted_label(by: u32, label: Label) -> Label
-    requires few { by ≤ 512 }
-    requires within { label.0 < 512 }
+    requires few { by ≤ MAX_CODE_LABELS }
+    requires within { label.0 < MAX_CODE_LABELS }
     ensures { result ≡ shift_label by label }
 {
     Label(by + label.0)
@@ -29,8 +30,8 @@ pub(crate) fn shifted_label(by: u32, label: Label) -> Label
 
 #[tactic(auto, unfolding(cj_draft::specs::Inlining::shift_operand))]
 pub(crate) fn shifted_operand(by: u32, operand: Operand) -> Operand
-    requires few { by ≤ 128 }
-    requires within { IsOperandWithin 128 operand }
+    requires few { by ≤ MAX_CODE_REGS }
+    requires within { IsOperandWithin MAX_CODE_REGS operand }
     ensures { result ≡ shift_operand by operand }
 {
     match operand {
@@ -41,8 +42,8 @@ pub(crate) fn shifted_operand(by: u32, operand: Operand) -> Operand
 
 #[tactic(auto, unfolding(cj_draft::specs::Operands::with_operands))]
 pub(crate) fn shifted_expr(by: u32, expr: Expr) -> Expr
-    requires few { by ≤ 128 }
-    requires within { IsExprWithin 128 expr }
+    requires few { by ≤ MAX_CODE_REGS }
+    requires within { IsExprWithin MAX_CODE_REGS expr }
     ensures { result ≡ with_operands (shift_operand by) expr }
 {
     match expr {
@@ -67,7 +68,7 @@ pub(crate) trait Shift: Drop {
 
     /// The same of the registers that many further on.
     fn shifted(&self, by: u32) -> Result<Self, NoMemory>
-        requires few { by ≤ 128 }
+        requires few { by ≤ MAX_CODE_REGS }
         requires within { is_within self.now }
         ensures { IfOk result (λ made. made ≡ shift by self.now) };
 }
@@ -75,7 +76,7 @@ pub(crate) trait Shift: Drop {
 impl Shift for Operand {
     ghost shift = { shift_operand };
 
-    ghost is_within = { IsOperandWithin 128 };
+    ghost is_within = { IsOperandWithin MAX_CODE_REGS };
 
     fn shifted(&self, by: u32) -> Result<Operand, NoMemory> {
         Ok(shifted_operand(by, *self))
@@ -86,7 +87,7 @@ impl Shift for Operand {
 impl Shift for Guard {
     ghost shift = { shift_guard };
 
-    ghost is_within = { IsGuardWithin 128 };
+    ghost is_within = { IsGuardWithin MAX_CODE_REGS };
 
     fn shifted(&self, by: u32) -> Result<Guard, NoMemory> {
         Ok(match *self {
@@ -103,7 +104,7 @@ impl Shift for Guard {
 impl Shift for Pair {
     ghost shift = { shift_pair };
 
-    ghost is_within = { λ pair. (pair.dest.0 < 128) × IsOperandWithin 128 pair.value };
+    ghost is_within = { λ pair. (pair.dest.0 < MAX_CODE_REGS) × IsOperandWithin MAX_CODE_REGS pair.value };
 
     fn shifted(&self, by: u32) -> Result<Pair, NoMemory> {
         Ok(Pair {
@@ -117,7 +118,7 @@ impl Shift for Pair {
 impl Shift for Fact {
     ghost shift = { shift_fact };
 
-    ghost is_within = { λ fact. fact.reg.0 < 128 };
+    ghost is_within = { λ fact. fact.reg.0 < MAX_CODE_REGS };
 
     fn shifted(&self, by: u32) -> Result<Fact, NoMemory> {
         Ok(Fact {
@@ -131,7 +132,7 @@ impl Shift for Fact {
 impl Shift for PointFrame {
     ghost shift = { shift_frame };
 
-    ghost is_within = { λ frame. All (IsOperandWithin 128) frame.map };
+    ghost is_within = { λ frame. All (IsOperandWithin MAX_CODE_REGS) frame.map };
 
     fn shifted(&self, by: u32) -> Result<PointFrame, NoMemory> {
         let map = shifted_all(&self.map, by)?;
@@ -146,7 +147,7 @@ impl Shift for PointFrame {
 
 /// The same items of the registers that many further on.
 pub(crate) fn shifted_all<T: Shift>(items: &Sequence<T>, by: u32) -> Result<Sequence<T>, NoMemory>
-    requires few { by ≤ 128 }
+    requires few { by ≤ MAX_CODE_REGS }
     requires within { All T.is_within items.now }
     ensures { IfOk result (λ made. made ≡ map (T.shift by) items.now) }
 {

@@ -1,5 +1,6 @@
 -- Lowering: a code without its Anchors and without the labels that no path from its entry reaches.
 use Rattle.std.specs.Prelude.{◌≡◌, ◌↔◌, ℕ, zero, suc, Bool, true, false, List, [], ◌∷◌, length, map, take, count_by, Contains, Option, Some, None, slice_get}
+use Rattle.cj_draft.specs.declared.limits.TheConstants.{MAX_ROW}
 use Rattle.cj_ir.specs.declared.language.Label.{Label}
 use Rattle.cj_draft.specs.declared.code.Place.{Place}
 use Rattle.cj_draft.specs.declared.code.Code.{Code}
@@ -21,7 +22,7 @@ past_anchors code (suc n) label = or_on (anchor_at code label) label (λ next. p
 
 -- from the label on, the first label that is no Anchor: at most 8 Anchors follow each other
 unfoldable pub passed : Code → Label → Label
-passed code label = past_anchors code 8 label
+passed code label = past_anchors code MAX_ROW label
 
 -- ---- the labels that are reached
 

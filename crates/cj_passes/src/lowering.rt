@@ -4,6 +4,7 @@ ghost use Rattle.std.specs.Prelude.{◌≡◌, ◌≤◌, [], ◌∷◌, ◌++�
 ghost use Rattle.cj_rows.specs.Edges.{led_place, IsClosed};
 ghost use Rattle.cj_rows.specs.Tables.{IsTable, given};
 ghost use Rattle.cj_passes.specs.Lowering.{renumbered, led, kept_of, lowered, IsLowered};
+ghost use Rattle.cj_draft.specs.declared.limits.TheConstants.{MAX_CODE_LABELS};
 
 use crate::reach::{passed, reached};
 use cj_draft::{Code, Draft, Place, Places, Version};
@@ -29,7 +30,7 @@ pub fn lower<'p>(draft: Draft<'p>) -> Result<Version<'p>, NoMemory>
 fn lowered(code: Code, kept: &[bool]) -> Result<Code, NoMemory>
     requires closed { IsClosed code }
     requires marks { length kept.now ≡ length code.places }
-    requires few { length kept.now ≤ 512 }
+    requires few { length kept.now ≤ MAX_CODE_LABELS }
     ensures { IfOk result (λ made. made ≡ lowered code kept.now) }
 {
     let table = led_labels(&code, kept)?;
@@ -46,7 +47,7 @@ fn lowered(code: Code, kept: &[bool]) -> Result<Code, NoMemory>
 /// For each label its new number: how many kept labels are below it.
 #[tactic(auto, using(cj_rows::proofs::Tables::table_none))]
 fn new_labels(alloc: Global, kept: &[bool]) -> Result<Labels, NoMemory>
-    requires { length kept.now ≤ 512 }
+    requires { length kept.now ≤ MAX_CODE_LABELS }
     ensures { IfOk result (IsTable (renumbered kept.now) (length kept.now)) }
 {
     let mut labels = Labels::new(alloc);
@@ -64,7 +65,7 @@ fn new_labels(alloc: Global, kept: &[bool]) -> Result<Labels, NoMemory>
 fn led_labels(code: &Code, kept: &[bool]) -> Result<Labels, NoMemory>
     requires closed { IsClosed code.now }
     requires marks { length kept.now ≡ length code.now.places }
-    requires few { length kept.now ≤ 512 }
+    requires few { length kept.now ≤ MAX_CODE_LABELS }
     ensures { IfOk result (IsTable (led code.now kept.now) (length code.now.places)) }
 {
     let alloc = code.places.allocator();

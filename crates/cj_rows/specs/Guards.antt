@@ -1,5 +1,6 @@
 -- What is asked of the guards that go to an Assume.
 use Rattle.std.specs.Prelude.{ℕ, Bool, true, false, nat_lt, List, [], ◌∷◌, Option, Some, None}
+use Rattle.cj_draft.specs.declared.limits.TheConstants.{MAX_GUARDS}
 use Rattle.cj_ir.specs.declared.language.Guard.{Guard}
 use Rattle.cj_ir.specs.declared.language.Guard.TheVariants.{Is, Never}
 use Rattle.cj_draft.specs.declared.passes.Room.TheVariants.{Guards}
@@ -28,4 +29,4 @@ register_offence regs (guard ∷ guards) = or_next (guard_offence regs guard) (r
 
 -- an Assume may have 8 guards
 unfoldable pub guards_offence : ℕ → Option Skipped
-guards_offence count = if_full (nat_lt 8 count) Guards (told count) None
+guards_offence count = if_full (nat_lt MAX_GUARDS count) Guards (told count) None

@@ -1,5 +1,6 @@
 -- Rows of Assumes and Anchors. At most 8 follow each other in a sound code.
 use Rattle.std.specs.Prelude.{ℕ, zero, suc, ◌+◌, max, Bool, true, false, nat_eq, length, Option, Some, None}
+use Rattle.cj_draft.specs.declared.limits.TheConstants.{MAX_ROW}
 use Rattle.cj_ir.specs.declared.language.Label.{Label}
 use Rattle.cj_draft.specs.declared.instructions.VInstr.{VInstr}
 use Rattle.cj_draft.specs.declared.instructions.VInstr.TheVariants.{Anchor}
@@ -67,8 +68,8 @@ greatest f (suc n) = max (greatest f n) (f (record { 0 = n }))
 
 -- the greatest number of Assumes and Anchors that lead from a label to this one
 unfoldable pub guards_before : Code → Label → ℕ
-guards_before code label = greatest (λ from. or_none (steps_to code label 8 from)) (length code.places)
+guards_before code label = greatest (λ from. or_none (steps_to code label MAX_ROW from)) (length code.places)
 
 -- the row of a fresh Assume or Anchor before the label: those that lead to the label, itself, and those that follow
 unfoldable pub fresh_row : Code → Label → ℕ
-fresh_row code label = guards_before code label + 1 + guards_after code 8 label
+fresh_row code label = guards_before code label + 1 + guards_after code MAX_ROW label

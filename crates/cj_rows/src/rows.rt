@@ -2,6 +2,7 @@
 
 ghost use Rattle.std.specs.Prelude.{◌≡◌, ◌≤◌, ◌<◌, max, length};
 ghost use Rattle.cj_rows.specs.Rows.{guard_at, anchor_next, anchor_at, guards_after, steps_to, guards_before, fresh_row};
+ghost use Rattle.cj_draft.specs.declared.limits.TheConstants.{MAX_CODE_LABELS};
 
 use cj_draft::limits::MAX_ROW;
 use cj_draft::{Code, VInstr};
@@ -45,8 +46,8 @@ pub fn anchor_at(code: &Code, label: Label) -> Option<Label>
 
 /// How many Assumes and Anchors follow each other from the label on, itself counted, of the first eight.
 pub fn guards_after(code: &Code, label: Label) -> u32
-    ensures count { result ≡ guards_after code.now 8 label }
-    ensures few { result ≤ 8 }
+    ensures count { result ≡ guards_after code.now MAX_ROW label }
+    ensures few { result ≤ MAX_ROW }
 {
     let mut at = label;
     for count in 0..MAX_ROW {
@@ -60,7 +61,7 @@ pub fn guards_after(code: &Code, label: Label) -> u32
 
 /// How many Assumes and Anchors, of at most eight, lead from a label to this one. `None`: they do not lead there.
 fn steps_to(code: &Code, label: Label, from: Label) -> Option<u32>
-    ensures { result ≡ steps_to code.now label 8 from }
+    ensures { result ≡ steps_to code.now label MAX_ROW from }
 {
     let mut at = from;
     for count in 0..MAX_ROW {
@@ -78,9 +79,9 @@ fn steps_to(code: &Code, label: Label, from: Label) -> Option<u32>
 /// The greatest number of Assumes and Anchors that lead from a label to this one, itself not counted, of at most eight.
 /// The code has at most 512 labels.
 pub fn guards_before(code: &Code, label: Label) -> u32
-    requires { length code.now.places ≤ 512 }
+    requires { length code.now.places ≤ MAX_CODE_LABELS }
     ensures count { result ≡ guards_before code.now label }
-    ensures few { result ≤ 8 }
+    ensures few { result ≤ MAX_ROW }
 {
     let mut most = 0;
     for from in 0..code.places.items().len() {
@@ -101,7 +102,7 @@ fn greater(one: u32, other: u32) -> u32
 /// code has at most 512 labels.
 #[tactic(auto, unfolding(crate::specs::Rows::fresh_row))]
 pub fn fresh_row(code: &Code, label: Label) -> u32
-    requires { length code.now.places ≤ 512 }
+    requires { length code.now.places ≤ MAX_CODE_LABELS }
     ensures { result ≡ fresh_row code.now label }
 {
     guards_before(code, label) + 1 + guards_after(code, label)
