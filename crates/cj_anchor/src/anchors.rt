@@ -15,8 +15,8 @@ use std::alloc::Global;
 
 /// An Anchor before each of these labels, in their order, with the label's point as its target. An offence skips that
 /// label alone, and is told with the label's place in the list: the label is not in the draft, or the row of Assumes and
-/// Anchors through the fresh one would be above 8, or the draft would have more than 512 labels. The program and the
-/// context stay.
+/// Anchors through the fresh one would be above `MAX_ROW`, or the draft would have more labels than `MAX_CODE_LABELS`. The
+/// program and the context stay.
 pub fn insert_anchors<'p>(draft: Draft<'p>, places: &Labels) -> Result<(Draft<'p>, Skips), NoMemory>
     ensures program { IfOk result (λ made. made.0.program ≡ draft.entry.program) }
     ensures context { IfOk result (λ made. made.0.context ≡ draft.entry.context) }

@@ -16,9 +16,10 @@ use cj_rows::{anchor_at, with_instr};
 /// The program and the context stay.
 ///
 /// The pass is skipped, and the draft stays, where the label is not in the draft, or holds no Anchor; where the register
-/// of a guard is not in the draft, which tells the first such guard's; where the Assume would have more than 8 guards; and
-/// for a fresh label where more than 8 Assumes and Anchors would follow each other, or the draft would have more than 512
-/// labels. The first of these conditions that holds is told. A count above the greatest of `u32` is told as that.
+/// of a guard is not in the draft, which tells the first such guard's; where the Assume would have more guards than
+/// `MAX_GUARDS`; and for a fresh label where more Assumes and Anchors than `MAX_ROW` would follow each other, or the draft
+/// would have more labels than `MAX_CODE_LABELS`. The first of these conditions that holds is told. A count above the
+/// greatest of `u32` is told as that.
 pub fn immediate<'p>(
     draft: Draft<'p>,
     anchor: Label,

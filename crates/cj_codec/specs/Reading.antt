@@ -2,6 +2,9 @@
 use Rattle.std.specs.Prelude.{ℕ, ◌+◌, ℤ, ◌^◌, List, [], ◌∷◌, length, Bool, true, false, cond, ◌&&◌, not, Option, None, Some, nat_lt, nat_le, ◌==◌}
 use Rattle.std.specs.List.{list_any}
 use Rattle.std.specs.Int.{cast_signed, w64}
+use Rattle.cj_ir.specs.declared.limits.TheConstants.{MAX_FUNCTIONS, MAX_PARAMS, MAX_REGS, MAX_LABELS}
+use Rattle.cj_draft.specs.declared.limits.TheConstants.{MAX_CODE_REGS, MAX_CODE_LABELS, MAX_FRAMES, MAX_GUARDS, MAX_BACK}
+use Rattle.cj_spelling.specs.declared.codes.TheConstants.{MAX_WORDS}
 use Rattle.cj_ir.specs.declared.language.FunId.{FunId}
 use Rattle.cj_ir.specs.declared.language.Label.{Label}
 use Rattle.cj_ir.specs.declared.language.Reg.{Reg}
@@ -37,21 +40,21 @@ abbrev pub reg_of : ℕ → Reg
 reg_of n = record { 0 = n }
 
 unfoldable pub function_at : Reading FunId
-function_at ws = made function_of (below_at 64 ws)
+function_at ws = made function_of (below_at MAX_FUNCTIONS ws)
 
 -- a label of the code, and a label of a function
 unfoldable pub label_at : Limits → Reading Label
 label_at limits ws = made label_of (below_at limits.labels ws)
 
 unfoldable pub base_label_at : Reading Label
-base_label_at ws = made label_of (below_at 256 ws)
+base_label_at ws = made label_of (below_at MAX_LABELS ws)
 
 -- a register of the code, and a register of a function
 unfoldable pub reg_at : Limits → Reading Reg
 reg_at limits ws = made reg_of (below_at limits.regs ws)
 
 unfoldable pub base_reg_at : Reading Reg
-base_reg_at ws = made reg_of (below_at 32 ws)
+base_reg_at ws = made reg_of (below_at MAX_REGS ws)
 
 unfoldable pub value_at : Reading ℤ
 value_at ws = made (cast_signed w64) (below_at (2 ^ 64) ws)
@@ -106,7 +109,7 @@ frame_of f label dest map = record { function = f; label = label; dest = dest; m
 
 unfoldable pub frame_at : Limits → Reading PointFrame
 frame_at limits ws =
-    four_at frame_of function_at base_label_at base_reg_at (counted_at (at_most_at 32) (operand_at limits)) ws
+    four_at frame_of function_at base_label_at base_reg_at (counted_at (at_most_at MAX_REGS) (operand_at limits)) ws
 
 abbrev pub has_plain_top : List PointFrame → Bool
 has_plain_top [] = false
@@ -116,7 +119,7 @@ abbrev pub point_of : List PointFrame → Point
 point_of frames = record { frames = frames }
 
 unfoldable pub point_at : Limits → Reading Point
-point_at limits ws = made point_of (only has_plain_top (counted_at (at_most_at 4) (frame_at limits) ws))
+point_at limits ws = made point_of (only has_plain_top (counted_at (at_most_at MAX_FRAMES) (frame_at limits) ws))
 
 -- ---- instructions, by their kinds
 
@@ -136,7 +139,7 @@ are_apart [] = true
 are_apart (pair ∷ pairs) = not (has_dest pair.dest.0 pairs) && are_apart pairs
 
 unfoldable pub pairs_at : Limits → Reading (List Pair)
-pairs_at limits ws = only are_apart (counted_at (at_most_at 128) (pair_at limits) ws)
+pairs_at limits ws = only are_apart (counted_at (at_most_at MAX_CODE_REGS) (pair_at limits) ws)
 
 unfoldable pub op_at : Limits → Reading VInstr
 op_at limits ws = three_at Op (reg_at limits) (expr_at limits) (label_at limits) ws
@@ -149,7 +152,7 @@ cond_at limits ws = three_at Cond (operand_at limits) (label_at limits) (label_a
 
 unfoldable pub call_at : Limits → Reading VInstr
 call_at limits ws =
-    four_at Call (reg_at limits) function_at (counted_at (at_most_at 8) (operand_at limits)) (label_at limits) ws
+    four_at Call (reg_at limits) function_at (counted_at (at_most_at MAX_PARAMS) (operand_at limits)) (label_at limits) ws
 
 unfoldable pub print_at : Limits → Reading VInstr
 print_at limits ws = two_at Print (operand_at limits) (label_at limits) ws
@@ -165,7 +168,7 @@ fail_at ws = two_at Fail function_at base_label_at ws
 
 unfoldable pub assume_at : Limits → Reading VInstr
 assume_at limits ws =
-    four_at Assume (counted_at (at_most_at 8) (guard_at limits)) (at_most_at 4) (point_at limits) (label_at limits) ws
+    four_at Assume (counted_at (at_most_at MAX_GUARDS) (guard_at limits)) (at_most_at MAX_BACK) (point_at limits) (label_at limits) ws
 
 abbrev pub instr_by : Limits → ℕ → Reading VInstr
 instr_by limits kind ws =
@@ -212,7 +215,7 @@ abbrev pub back_of : ℕ → Point → Back
 back_of turns point = record { turns = turns; point = point }
 
 unfoldable pub back_at : Limits → Reading Back
-back_at limits ws = two_at back_of (at_most_at 4) (point_at limits) ws
+back_at limits ws = two_at back_of (at_most_at MAX_BACK) (point_at limits) ws
 
 -- ---- places and codes
 
@@ -238,8 +241,8 @@ places_at f regs entry labels ws =
 
 unfoldable pub code_at : Reading Code
 code_at ws =
-    function_at ws >>= λ f. at_most_at 128 f.1 >>= λ regs. word_at regs.1 >>= λ entry.
-    at_most_at 512 entry.1 >>= λ labels. places_at f.0 regs.0 entry.0 labels.0 labels.1
+    function_at ws >>= λ f. at_most_at MAX_CODE_REGS f.1 >>= λ regs. word_at regs.1 >>= λ entry.
+    at_most_at MAX_CODE_LABELS entry.1 >>= λ labels. places_at f.0 regs.0 entry.0 labels.0 labels.1
 
 -- the format's number, and the code
 unfoldable pub body_at : Reading Code
@@ -252,6 +255,6 @@ whole (code, w ∷ ws) = None
 -- the code that all the words spell
 unfoldable pub decoded : List ℕ → Option Code
 decoded ws =
-    cond (nat_le (length ws) 65536)
+    cond (nat_le (length ws) MAX_WORDS)
     (word_at ws >>= λ len. cond (len.0 == length ws) (body_at len.1 >>= whole) None)
     None

@@ -24,10 +24,10 @@ use cj_rows::{with_instr, with_pair};
 /// The pass is skipped, and the draft stays, where the path has fewer than two labels; for the first of its labels that is
 /// not in the draft; where its first label holds no Anchor; for the first later label that is no successor of the one before it or stands earlier in the
 /// path, into which other than one edge goes, the one from the start counted, or that is not the last and does not pass in
-/// silence; where the Assume would take more than 4 turns back; where the register of a guard is not in the draft; where
-/// there are more than 8 guards; where more than 8 Assumes and Anchors would follow each other; or where the draft would
-/// have more than 512 labels. The first of these conditions that holds is told. A count above the greatest of `u32` is
-/// told as that.
+/// silence; where the Assume would take more turns back than `MAX_BACK`; where the register of a guard is not in the draft;
+/// where there are more guards than `MAX_GUARDS`; where more Assumes and Anchors than `MAX_ROW` would follow each other; or
+/// where the draft would have more labels than `MAX_CODE_LABELS`. The first of these conditions that holds is told. A count
+/// above the greatest of `u32` is told as that.
 pub fn delayed<'p>(
     draft: Draft<'p>,
     path: &Labels,

@@ -25,8 +25,8 @@ use cj_ir::{Label, NoMemory, Program};
 ///
 /// The pass is skipped, and the draft stays, where the label is not in the draft (`NoPlace`); where it holds no call, or no
 /// run comes to it (`NotCall`); where the callee is of another function than the called one, which is told (`Other`); where
-/// a point would have more than 4 frames (`Deep`); where there would be more than 128 registers, or more than 512 labels
-/// (`Full`). The first of these conditions that holds is told, with the number that is too great.
+/// a point would have more frames than `MAX_FRAMES` (`Deep`); where there would be more registers than `MAX_CODE_REGS`, or
+/// more labels than `MAX_CODE_LABELS` (`Full`). The first of these conditions that holds is told, with the number that is too great.
 pub fn inline<'p>(
     draft: Draft<'p>,
     call: Label,

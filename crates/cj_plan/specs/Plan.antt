@@ -15,6 +15,7 @@ use Rattle.cj_draft.specs.declared.passes.Pass.TheVariants.{Anchors, Assume, Del
 use Rattle.cj_profile.specs.declared.snapshot.ParamNote.{ParamNote}
 use Rattle.cj_profile.specs.declared.snapshot.EdgeNote.{EdgeNote}
 use Rattle.cj_profile.specs.declared.snapshot.Snapshot.{Snapshot}
+use Rattle.cj_plan.specs.declared.limits.TheConstants.{COLDS, HOT, AGREEMENTS, INLINES, SHORT}
 use Rattle.cj_plan.specs.declared.colds.Cold.{Cold}
 use Rattle.cj_plan.specs.declared.colds.Targets.{Targets}
 
@@ -30,9 +31,9 @@ label n = record { 0 = n }
 abbrev pub code_of : Program → FunId → List Line
 code_of p f = lines_of (function_at p f)
 
--- a parameter with at least 4 agreements is guarded
+-- a parameter with enough agreements is guarded
 abbrev pub guard_of : ℕ → ParamNote → List Guard
-guard_of param note = if nat_le 4 note.agreed then Is (record { 0 = param }) note.last ∷ [] else []
+guard_of param note = if nat_le AGREEMENTS note.agreed then Is (record { 0 = param }) note.last ∷ [] else []
 
 abbrev pub guards_in : List ParamNote → List Guard
 guards_in notes = each_from guard_of 0 notes
@@ -49,9 +50,9 @@ callee_of (Load dest address next) = None
 callee_of (Store address value next) = None
 callee_of (Fail text) = None
 
--- a call of another function, of at most 24 labels, is inlined
+-- a call of another function is inlined that is short
 abbrev pub is_inlined : Program → FunId → FunId → Bool
-is_inlined p f g = not (g.0 == f.0) && nat_le (label_count p g) 24
+is_inlined p f g = not (g.0 == f.0) && nat_le (label_count p g) SHORT
 
 abbrev pub inline_by : Program → FunId → ℕ → Option FunId → List Label
 inline_by p f n None = []
@@ -61,7 +62,7 @@ abbrev pub inline_of : Program → FunId → ℕ → Line → List Label
 inline_of p f n line = inline_by p f n (callee_of line.instr)
 
 abbrev pub inlined_in : Program → FunId → List Line → List Label
-inlined_in p f code = take 4 (each_from (inline_of p f) 0 code)
+inlined_in p f code = take INLINES (each_from (inline_of p f) 0 code)
 
 -- where the edges of a cond go
 abbrev pub targets_of : Instr → Option Targets
@@ -75,9 +76,9 @@ targets_of (Load dest address next) = None
 targets_of (Store address value next) = None
 targets_of (Fail text) = None
 
--- an edge is cold that was counted 0 where the other one was counted at least 8
+-- an edge is cold that was counted 0 where the other one was counted often
 abbrev pub is_cold : ℕ → ℕ → Bool
-is_cold count other = (count == 0) && nat_le 8 other
+is_cold count other = (count == 0) && nat_le HOT other
 
 abbrev pub cold_edge : ℕ → Label → ℕ → ℕ → List Cold
 cold_edge n target count other = if is_cold count other then record { label = label n; target = target } ∷ [] else []
@@ -92,7 +93,7 @@ abbrev pub cold_of : List EdgeNote → ℕ → Line → List Cold
 cold_of notes n line = cold_by n (slice_get notes n) (targets_of line.instr)
 
 abbrev pub colds_in : List EdgeNote → List Line → List Cold
-colds_in notes code = take 64 (each_from (cold_of notes) 0 code)
+colds_in notes code = take COLDS (each_from (cold_of notes) 0 code)
 
 -- The draft has n labels at first. An Anchor at the entry is label n, and an Assume after it the next one. Then come the
 -- Anchors of the cold labels, of which b is the first.

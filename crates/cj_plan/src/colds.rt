@@ -2,7 +2,9 @@
 
 ghost use Rattle.std.specs.Prelude.{◌≡◌, ◌++◌, ◌+◌, ◌∷◌, [], ◌≤◌, ◌<◌, length, map, take, IfOk, OnOk, slice_get};
 ghost use Rattle.cj_plan.specs.Plan.{each_from, targets_of, is_cold, cold_edge, cold_by, colds_in, led_from, led, delay_of, delays};
+ghost use Rattle.cj_ir.specs.declared.limits.TheConstants.{MAX_LABELS};
 
+use crate::limits::{COLDS, HOT};
 use cj_draft::{Pass, Passes};
 use cj_ir::{Guard, Guards, Instr, Label, Labels, Line, NoMemory, Sequence};
 use cj_profile::EdgeNote;
@@ -24,15 +26,9 @@ pub struct Targets {
 
 pub(crate) type Colds = Sequence<Cold>;
 
-// As many cold edges are taken in at most.
-const COLDS: usize = 64;
-
-// An edge is cold where the other one was taken at least as often.
-const HOT: u64 = 8;
-
 /// The cold edges of a function's code, by what was counted.
 pub(crate) fn colds_in(alloc: Global, notes: &[EdgeNote], code: &[Line]) -> Result<Colds, NoMemory>
-    requires { length code.now ≤ 256 }
+    requires { length code.now ≤ MAX_LABELS }
     ensures { IfOk result (λ colds. colds ≡ colds_in notes.now code.now) }
 {
     let mut colds = Colds::new(alloc);
@@ -84,8 +80,8 @@ fn add_cold(
     note: Option<EdgeNote>,
     targets: Option<Targets>,
 ) -> Result<(), NoMemory>
-    requires { length colds.old ≤ 64 }
-    ensures { OnOk result (colds.new ≡ take 64 (colds.old ++ cold_by label.0 note targets)) }
+    requires { length colds.old ≤ COLDS }
+    ensures { OnOk result (colds.new ≡ take COLDS (colds.old ++ cold_by label.0 note targets)) }
 {
     let Some(note) = note else {
         return Ok(());
@@ -107,9 +103,9 @@ fn add_edge(
     count: u64,
     other: u64,
 ) -> Result<(), NoMemory>
-    requires { length colds.old ≤ 64 }
-    ensures edge { OnOk result (colds.new ≡ take 64 (colds.old ++ cold_edge label.0 target count other)) }
-    ensures few { OnOk result (length colds.new ≤ 64) }
+    requires { length colds.old ≤ COLDS }
+    ensures edge { OnOk result (colds.new ≡ take COLDS (colds.old ++ cold_edge label.0 target count other)) }
+    ensures few { OnOk result (length colds.new ≤ COLDS) }
 {
     if is_cold(count, other) {
         add_item(colds, Cold { label, target })?;
@@ -124,9 +120,9 @@ fn is_cold(count: u64, other: u64) -> bool
 }
 
 fn add_item(colds: &mut Colds, cold: Cold) -> Result<(), NoMemory>
-    requires { length colds.old ≤ 64 }
-    ensures item { OnOk result (colds.new ≡ take 64 (colds.old ++ cold ∷ [])) }
-    ensures few { OnOk result (length colds.new ≤ 64) }
+    requires { length colds.old ≤ COLDS }
+    ensures item { OnOk result (colds.new ≡ take COLDS (colds.old ++ cold ∷ [])) }
+    ensures few { OnOk result (length colds.new ≤ COLDS) }
 {
     if colds.items().len() < COLDS {
         colds.push(cold)?;
@@ -142,9 +138,9 @@ pub(crate) fn add_delays(
     first: u32,
     colds: &[Cold],
 ) -> Result<(), NoMemory>
-    requires entry { entry ≤ 256 }
+    requires entry { entry ≤ MAX_LABELS }
     requires first { first ≤ 258 }
-    requires few { length colds.now ≤ 64 }
+    requires few { length colds.now ≤ COLDS }
     ensures { OnOk result (passes.new ≡ passes.old ++ delays entry first colds.now) }
 {
     if colds.is_empty() {
@@ -173,7 +169,7 @@ fn add_each_delay(
     colds: &[Cold],
 ) -> Result<(), NoMemory>
     requires first { first ≤ 258 }
-    requires few { length colds.now ≤ 64 }
+    requires few { length colds.now ≤ COLDS }
     ensures { OnOk result (passes.new ≡ passes.old ++ each_from (delay_of entry first colds.now) 0 colds.now) }
 {
     for (number, &cold) in colds.iter().enumerate() {
@@ -192,7 +188,7 @@ fn add_delay(
 ) -> Result<(), NoMemory>
     requires first { first ≤ 258 }
     requires number { number < length colds.now }
-    requires few { length colds.now ≤ 64 }
+    requires few { length colds.now ≤ COLDS }
     ensures { OnOk result (passes.new ≡ passes.old ++ delay_of entry first colds.now number cold) }
 {
     let alloc = passes.allocator();
@@ -209,7 +205,7 @@ fn add_delay(
 // Where an edge to a label leads.
 fn led(entry: u32, first: u32, colds: &[Cold], to: Label) -> Label
     requires first { first ≤ 258 }
-    requires few { length colds.now ≤ 64 }
+    requires few { length colds.now ≤ COLDS }
     ensures { result ≡ led entry first colds.now to }
 {
     if to.0 == 0 {
@@ -220,7 +216,7 @@ fn led(entry: u32, first: u32, colds: &[Cold], to: Label) -> Label
 
 fn led_from(first: u32, colds: &[Cold], to: Label) -> Label
     requires first { first ≤ 258 }
-    requires few { length colds.now ≤ 64 }
+    requires few { length colds.now ≤ COLDS }
     ensures { result ≡ led_from first colds.now to }
 {
     for (number, cold) in colds.iter().enumerate() {

@@ -2,17 +2,16 @@
 
 ghost use Rattle.std.specs.Prelude.{◌≡◌, ◌++◌, ◌≤◌, length, IfOk, OnOk};
 ghost use Rattle.cj_plan.specs.Plan.{guard_of, guards_in};
+ghost use Rattle.cj_ir.specs.declared.limits.TheConstants.{MAX_PARAMS};
 
+use crate::limits::AGREEMENTS;
 use cj_ir::{Guard, Guards, NoMemory, Reg};
 use cj_profile::ParamNote;
 use std::alloc::Global;
 
-// An argument is guarded that agreed at least as often.
-const AGREEMENTS: u64 = 4;
-
 /// A guard for each parameter of which enough arguments agreed: it has its last value.
 pub(crate) fn guards_in(alloc: Global, params: &[ParamNote]) -> Result<Guards, NoMemory>
-    requires { length params.now ≤ 8 }
+    requires { length params.now ≤ MAX_PARAMS }
     ensures { IfOk result (λ guards. guards ≡ guards_in params.now) }
 {
     let mut guards = Guards::new(alloc);

@@ -4,16 +4,12 @@ ghost use Rattle.std.specs.Prelude.{◌≡◌, ◌++◌, ◌∷◌, [], ◌≤�
 ghost use Rattle.cj_ir.specs.Program.{label_count};
 ghost use Rattle.cj_draft.specs.declared.passes.Pass.TheVariants.{Inline};
 ghost use Rattle.cj_plan.specs.Plan.{callee_of, is_inlined, inline_by, inlined_in, inline_passes};
+ghost use Rattle.cj_ir.specs.declared.limits.TheConstants.{MAX_LABELS};
 
+use crate::limits::{INLINES, SHORT};
 use cj_draft::{Pass, Passes};
 use cj_ir::{Checked, FunId, Instr, Label, Labels, Line, NoMemory};
 use std::alloc::Global;
-
-// As many calls are inlined at most.
-const INLINES: usize = 4;
-
-// And of functions of as many labels at most.
-const SHORT: usize = 24;
 
 /// Appends the inlining of the first calls of other functions that are short, and constant propagation.
 pub(crate) fn add_inlines(
@@ -22,7 +18,7 @@ pub(crate) fn add_inlines(
     f: FunId,
     code: &[Line],
 ) -> Result<(), NoMemory>
-    requires { length code.now ≤ 256 }
+    requires { length code.now ≤ MAX_LABELS }
     ensures { OnOk result (passes.new ≡ passes.old ++ inline_passes checked.now f code.now) }
 {
     let calls = inlined_in(passes.allocator(), checked, f, code)?;
@@ -41,7 +37,7 @@ fn add_calls(passes: &mut Passes, calls: &[Label]) -> Result<(), NoMemory>
 }
 
 fn inlined_in(alloc: Global, checked: &Checked, f: FunId, code: &[Line]) -> Result<Labels, NoMemory>
-    requires { length code.now ≤ 256 }
+    requires { length code.now ≤ MAX_LABELS }
     ensures { IfOk result (λ calls. calls ≡ inlined_in checked.now f code.now) }
 {
     let mut calls = Labels::new(alloc);
@@ -65,8 +61,8 @@ fn add_call(
     label: Label,
     callee: Option<FunId>,
 ) -> Result<(), NoMemory>
-    requires { length calls.old ≤ 4 }
-    ensures { OnOk result (calls.new ≡ take 4 (calls.old ++ inline_by checked.now f label.0 callee)) }
+    requires { length calls.old ≤ INLINES }
+    ensures { OnOk result (calls.new ≡ take INLINES (calls.old ++ inline_by checked.now f label.0 callee)) }
 {
     let Some(callee) = callee else {
         return Ok(());
@@ -78,8 +74,8 @@ fn add_call(
 }
 
 fn add_label(calls: &mut Labels, label: Label) -> Result<(), NoMemory>
-    requires { length calls.old ≤ 4 }
-    ensures { OnOk result (calls.new ≡ take 4 (calls.old ++ label ∷ [])) }
+    requires { length calls.old ≤ INLINES }
+    ensures { OnOk result (calls.new ≡ take INLINES (calls.old ++ label ∷ [])) }
 {
     if calls.items().len() < INLINES {
         calls.push(label)?;

@@ -4,6 +4,7 @@
 pub mod colds;
 pub mod guards;
 pub mod inlines;
+pub mod limits;
 pub mod plans;
 #[cfg(test)]
 mod tests;

@@ -4,6 +4,7 @@ ghost use Rattle.std.specs.Prelude.{◌≡◌, ◌++◌, ◌+◌, ◌∷◌, [],
 ghost use Rattle.cj_draft.specs.declared.passes.Pass.TheVariants.{Anchors};
 ghost use Rattle.cj_profile.specs.Snapshots.{FitsFunction};
 ghost use Rattle.cj_plan.specs.Plan.{label, assumes, first_cold, entry_passes, delay_passes, first_plan, second_plan, inline_passes, guards_in, colds_in, planned};
+ghost use Rattle.cj_ir.specs.declared.limits.TheConstants.{MAX_PARAMS, MAX_LABELS};
 
 use crate::colds::{add_delays, colds_in};
 use crate::guards::guards_in;
@@ -15,10 +16,10 @@ use std::alloc::Global;
 
 /// The passes for a function at a level from 1 to 3, by a snapshot of as many parameters and labels as it has.
 ///
-/// Level 1 puts an Anchor before the entry, after it guards on the parameters whose arguments agreed at least 4 times,
-/// and propagates constants. Level 2 besides puts an Anchor before the first 64 conds of which one edge was counted 0 and
-/// the other at least 8, and an Assume that always fails on that edge; then it does what level 3 does. Level 3 inlines the
-/// first four calls of other functions of at most 24 labels, and propagates constants.
+/// Level 1 puts an Anchor before the entry, after it guards on the parameters whose arguments agreed `AGREEMENTS` times or
+/// more, and propagates constants. Level 2 besides puts an Anchor before the first `COLDS` conds of which one edge was
+/// counted 0 and the other `HOT` times or more, and an Assume that always fails on that edge; then it does what level 3
+/// does. Level 3 inlines the first `INLINES` calls of other functions of at most `SHORT` labels, and propagates constants.
 pub fn plan(
     alloc: Global,
     checked: &Checked,
@@ -44,8 +45,8 @@ pub fn plan(
 }
 
 fn add_first(passes: &mut Passes, code: &[Line], snapshot: &Snapshot) -> Result<(), NoMemory>
-    requires code { length code.now ≤ 256 }
-    requires params { length snapshot.now.params ≤ 8 }
+    requires code { length code.now ≤ MAX_LABELS }
+    requires params { length snapshot.now.params ≤ MAX_PARAMS }
     ensures { OnOk result (passes.new ≡ passes.old ++ first_plan code.now snapshot.now) }
 {
     let guards = guards_in(passes.allocator(), snapshot.params.items())?;
@@ -60,8 +61,8 @@ fn add_second(
     code: &[Line],
     snapshot: &Snapshot,
 ) -> Result<(), NoMemory>
-    requires code { length code.now ≤ 256 }
-    requires params { length snapshot.now.params ≤ 8 }
+    requires code { length code.now ≤ MAX_LABELS }
+    requires params { length snapshot.now.params ≤ MAX_PARAMS }
     ensures { OnOk result (passes.new ≡ passes.old ++ second_plan checked.now f code.now snapshot.now) }
 {
     add_first(passes, code, snapshot)?;
@@ -71,8 +72,8 @@ fn add_second(
 }
 
 fn add_cold_passes(passes: &mut Passes, code: &[Line], snapshot: &Snapshot) -> Result<(), NoMemory>
-    requires code { length code.now ≤ 256 }
-    requires params { length snapshot.now.params ≤ 8 }
+    requires code { length code.now ≤ MAX_LABELS }
+    requires params { length snapshot.now.params ≤ MAX_PARAMS }
     ensures { OnOk result (passes.new ≡ passes.old ++ delay_passes (length code.now) (guards_in snapshot.now.params) (colds_in snapshot.now.edges code.now)) }
 {
     let alloc = passes.allocator();
@@ -106,7 +107,7 @@ fn add_assume(passes: &mut Passes, anchor: Label, guards: Guards) -> Result<(), 
 
 // The first label after the entry's Anchor and its Assume.
 fn first_cold(labels: u32, guards: &Guards) -> u32
-    requires { labels ≤ 256 }
+    requires { labels ≤ MAX_LABELS }
     ensures { result ≡ first_cold labels guards.now }
 {
     if guards.items().is_empty() {

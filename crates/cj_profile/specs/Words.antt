@@ -1,18 +1,19 @@
--- The words of a profile. Word 0 counts the callers that have finished, and each function has 532 words from 1 on: its
--- calls, failures, asked and taken level, then the last argument of each of 8 parameters and how many agreed with it, then
--- how often each of 256 labels took its two edges.
+-- The words of a profile. Word 0 counts the callers that have finished, and each function has as many words from 1 on: its
+-- calls, failures, asked and taken level, then the last argument of each parameter and how many agreed with it, then how
+-- often each label took its two edges. There is room for as many parameters and labels as a function may have.
 use Rattle.std.specs.Prelude.{ℕ, ◌+◌, ◌*◌, ◌<◌, ⊤, length}
 use Rattle.cj_ir.specs.Program.{param_count, label_count}
 use Rattle.cj_ir.specs.declared.language.FunId.{FunId}
 use Rattle.cj_ir.specs.declared.language.Program.{Program}
 use Rattle.cj_ir.specs.declared.language.Edge.{Edge}
 use Rattle.cj_ir.specs.declared.language.Edge.TheVariants.{Then, Else}
+use Rattle.cj_profile.specs.declared.layout.TheConstants.{FUNCTION_WORDS, PARAMS_AT, LABELS_AT}
 use Rattle.cj_profile.specs.declared.layout.Word.{Word}
 use Rattle.cj_profile.specs.declared.layout.Word.TheVariants.{Finished, Calls, Failures, Asked, Taken, Last, Agreed, Way}
 
 -- the first word of a function
 abbrev pub first_word : FunId → ℕ
-first_word f = 532 * f.0 + 1
+first_word f = FUNCTION_WORDS * f.0 + 1
 
 -- the number of a word
 abbrev pub number : Word → ℕ
@@ -21,14 +22,14 @@ number (Calls f) = first_word f
 number (Failures f) = first_word f + 1
 number (Asked f) = first_word f + 2
 number (Taken f) = first_word f + 3
-number (Last f param) = first_word f + 4 + 2 * param
-number (Agreed f param) = first_word f + 5 + 2 * param
-number (Way f label Then) = first_word f + 20 + 2 * label.0
-number (Way f label Else) = first_word f + 21 + 2 * label.0
+number (Last f param) = first_word f + PARAMS_AT + 2 * param
+number (Agreed f param) = first_word f + PARAMS_AT + 2 * param + 1
+number (Way f label Then) = first_word f + LABELS_AT + 2 * label.0
+number (Way f label Else) = first_word f + LABELS_AT + 2 * label.0 + 1
 
 -- how many words a program's profile has
 abbrev pub word_count : Program → ℕ
-word_count p = 532 * length p.functions + 1
+word_count p = FUNCTION_WORDS * length p.functions + 1
 
 -- the program has the function, parameter and label
 abbrev pub IsWordOf : Program → Word → Type 0

@@ -3,6 +3,7 @@
 ghost use Rattle.std.specs.Prelude.{◌≡◌};
 ghost use Rattle.cj_profile.specs.Words.{number, first_word};
 
+use cj_ir::limits::{MAX_LABELS, MAX_PARAMS};
 use cj_ir::{Edge, FunId, Label};
 
 /// A word of a profile, by what it keeps.
@@ -36,8 +37,14 @@ pub enum Word {
     },
 }
 
-/// How many words a function has.
-pub const FUNCTION_WORDS: usize = 532;
+/// Where the words of a function's parameters begin, behind its calls, failures, asked and taken level.
+pub const PARAMS_AT: usize = 4;
+
+/// Where the words of its labels begin: a parameter has two words.
+pub const LABELS_AT: usize = PARAMS_AT + 2 * MAX_PARAMS as usize;
+
+/// How many words a function has: a label has two.
+pub const FUNCTION_WORDS: usize = LABELS_AT + 2 * MAX_LABELS;
 
 impl Word {
     /// The word's number.
@@ -50,18 +57,20 @@ impl Word {
             Word::Failures(f) => first_word(f) + 1,
             Word::Asked(f) => first_word(f) + 2,
             Word::Taken(f) => first_word(f) + 3,
-            Word::Last { function, param } => first_word(function) + 4 + 2 * param as usize,
-            Word::Agreed { function, param } => first_word(function) + 5 + 2 * param as usize,
+            Word::Last { function, param } => first_word(function) + PARAMS_AT + 2 * param as usize,
+            Word::Agreed { function, param } => {
+                first_word(function) + PARAMS_AT + 2 * param as usize + 1
+            }
             Word::Way {
                 function,
                 label,
                 edge: Edge::Then,
-            } => first_word(function) + 20 + 2 * label.0 as usize,
+            } => first_word(function) + LABELS_AT + 2 * label.0 as usize,
             Word::Way {
                 function,
                 label,
                 edge: Edge::Else,
-            } => first_word(function) + 21 + 2 * label.0 as usize,
+            } => first_word(function) + LABELS_AT + 2 * label.0 as usize + 1,
         }
     }
 }

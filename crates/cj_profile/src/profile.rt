@@ -5,6 +5,7 @@ ghost use Rattle.cj_ir.specs.WellFormed.{IsFunctionFine};
 ghost use Rattle.cj_profile.specs.Words.{word_count};
 ghost use Rattle.cj_profile.specs.Limits.{IsLimited};
 ghost use Rattle.cj_profile.specs.Shapes.{shape_of};
+ghost use Rattle.cj_ir.specs.declared.limits.TheConstants.{MAX_FUNCTIONS, MAX_LABELS};
 
 use crate::layout::FUNCTION_WORDS;
 use crate::plays::{Levels, Seating};
@@ -28,7 +29,7 @@ pub struct Profile {
     pub(crate) shapes: Sequence<Shape>,
     ghost sized: { table.shared.table_id.words ≡ word_count table.shared.key },
     ghost shaped: { shapes ≡ map shape_of table.shared.key.functions },
-    ghost few: { length table.shared.key.functions ≤ 64 },
+    ghost few: { length table.shared.key.functions ≤ MAX_FUNCTIONS },
     ghost limited: { IsLimited table.shared.key },
 }
 
@@ -116,7 +117,7 @@ fn shapes_of(alloc: Global, functions: &[Function]) -> Result<Sequence<Shape>, N
 }
 
 fn shape_of(function: &Function) -> Shape
-    requires { length function.now.code ≤ 256 }
+    requires { length function.now.code ≤ MAX_LABELS }
     ensures { result ≡ shape_of function.now }
 {
     Shape {

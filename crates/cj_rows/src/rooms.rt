@@ -7,7 +7,8 @@ use cj_draft::limits::{MAX_CODE_LABELS, MAX_ROW};
 use cj_draft::{Room, Skipped};
 
 /// Why there is no room for a fresh Assume or Anchor in a row of that many with it, in a draft of that many labels with
-/// its own: more than 8 would follow each other, or else the draft would have more than 512 labels. `None`: there is room.
+/// its own: too many would follow each other (`MAX_ROW`), or else the draft would have too many labels (`MAX_CODE_LABELS`).
+/// `None`: there is room.
 #[tactic(auto, unfolding(crate::specs::Rooms::room_offence, crate::specs::Rooms::if_full))]
 pub fn room_offence(row: u32, labels: u32) -> Option<Skipped>
     ensures { result ≡ room_offence row labels }

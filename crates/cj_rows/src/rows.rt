@@ -77,7 +77,7 @@ fn steps_to(code: &Code, label: Label, from: Label) -> Option<u32>
 }
 
 /// The greatest number of Assumes and Anchors that lead from a label to this one, itself not counted, of at most eight.
-/// The code has at most 512 labels.
+/// The code has at most as many labels as a code may have.
 pub fn guards_before(code: &Code, label: Label) -> u32
     requires { length code.now.places ≤ MAX_CODE_LABELS }
     ensures count { result ≡ guards_before code.now label }
@@ -99,7 +99,7 @@ fn greater(one: u32, other: u32) -> u32
 
 /// The row of a fresh Assume or Anchor directly before the label: it, those that lead to the label, and those that follow
 /// each other from the label on. A fresh one directly after the Assume or Anchor at the label stands in a row as long. The
-/// code has at most 512 labels.
+/// code has at most as many labels as a code may have.
 #[tactic(auto, unfolding(crate::specs::Rows::fresh_row))]
 pub fn fresh_row(code: &Code, label: Label) -> u32
     requires { length code.now.places ≤ MAX_CODE_LABELS }

@@ -19,7 +19,7 @@ pub const MAX_WORDS: u64 = 65536;
 /// Why a code has no words.
 #[derive(Clone, Copy, Debug, PartialEq, Eq, Error)]
 pub enum EncodeError {
-    /// The spelling has so many words, more than 65,536. (Where they are more than 2^64 - 1, it is that number.)
+    /// The spelling has so many words, more than `MAX_WORDS`. (Where they are more than 2^64 - 1, it is that number.)
     #[error("the code has {len} words")]
     TooLarge { len: u64 },
     #[error("there was no memory")]
@@ -61,7 +61,7 @@ fn write_words(alloc: Global, code: &Code, len: u64) -> Result<Words, NoMemory>
 
 /// The words of a code that is in range. An anchor is not.
 ///
-/// `TooLarge`: exactly where they are more than 65,536, which takes no memory.
+/// `TooLarge`: exactly where they are more than `MAX_WORDS`, which takes no memory.
 pub fn encode(alloc: Global, code: &Code) -> Result<Words, EncodeError>
     requires in_range { IsInRange code.now }
     ensures words { IfOk result (λ words. Spells words code.now) }
