@@ -2,42 +2,11 @@
 
 use super::insert_anchors;
 use cj_draft::{Code, Draft, Room, Skipped, VInstr};
-use cj_ir::{
-    Checked, FunId, Function, Functions, Instr, Label, Labels, Line, Lines, Name, Names, Operand,
-    Program, check,
-};
+use cj_ir::samples::{alone, jump};
+use cj_ir::{Checked, FunId, Label, Labels};
 use std::alloc::Global;
 use std::process::Abort;
 use std::test::Fail;
-
-fn named(rt: &impl Abort, alloc: Global, name: &str) -> Result<Name, Fail> {
-    Ok(Name::of(alloc, name.as_bytes())?.expect(rt, "a name"))
-}
-
-fn add_line(code: &mut Lines, name: u32, instr: Instr) -> Result<(), Fail> {
-    Ok(code.push(Line { name, instr })?)
-}
-
-// A jump over a label, which nothing else reaches, to a return.
-fn jump_lines(alloc: Global) -> Result<Lines, Fail> {
-    let mut code = Lines::new(alloc);
-    let value = Operand::Const(7);
-    add_line(&mut code, 1, Instr::Nop { next: Label(2) })?;
-    add_line(&mut code, 2, Instr::Nop { next: Label(0) })?;
-    add_line(&mut code, 3, Instr::Return { value })?;
-    Ok(code)
-}
-
-fn program(rt: &impl Abort, alloc: Global) -> Result<Checked, Fail> {
-    let mut functions = Functions::new(alloc);
-    functions.push(Function {
-        name: named(rt, alloc, "jump")?,
-        params: 0,
-        regs: Names::new(alloc),
-        code: jump_lines(alloc)?,
-    })?;
-    Ok(check(Program { functions }).expect(rt, "a well-formed program"))
-}
 
 fn has_places(code: &Code, entry: u32, count: usize) -> bool {
     code.entry == Label(entry) && code.places.items().len() == count
@@ -88,7 +57,7 @@ fn anchored<'p>(
 
 #[test]
 fn edges_to_a_label_go_to_its_anchor(rt: HostRuntime) -> Result<(), Fail> {
-    let checked = program(&rt, rt.alloc())?;
+    let checked = alone(jump(rt.alloc())?)?;
     let no_place = Skipped::NoPlace { label: Label(5) };
     let before = labels(rt.alloc(), &[0, 5, 2, 0])?;
     let draft = anchored(&rt, &checked, &before, (1, no_place))?;
@@ -108,7 +77,7 @@ fn has_anchors(rt: &impl Abort, code: &Code) {
 
 #[test]
 fn a_ninth_anchor_of_a_row_is_skipped(rt: HostRuntime) -> Result<(), Fail> {
-    let checked = program(&rt, rt.alloc())?;
+    let checked = alone(jump(rt.alloc())?)?;
     let full = Skipped::Full {
         room: Room::Row,
         count: 9,

@@ -4,54 +4,11 @@ use super::assumes::assumed;
 use super::immediate;
 use super::offences::assume_offence;
 use cj_draft::{Back, Backs, Code, Draft, Place, Point, Room, Skipped, VInstr};
-use cj_ir::{
-    Checked, Duplicate, Expr, FunId, Function, Functions, Guard, Guards, Instr, Label, Line, Lines,
-    Name, Names, Operand, Program, Reg, check,
-};
+use cj_ir::samples::{alone, increment, list};
+use cj_ir::{Checked, Duplicate, FunId, Guard, Label, Reg};
 use std::alloc::Global;
 use std::process::Abort;
 use std::test::Fail;
-
-fn named(rt: &impl Abort, alloc: Global, name: &str) -> Result<Name, Fail> {
-    Ok(Name::of(alloc, name.as_bytes())?.expect(rt, "a name"))
-}
-
-fn add_line(code: &mut Lines, name: u32, instr: Instr) -> Result<(), Fail> {
-    Ok(code.push(Line { name, instr })?)
-}
-
-fn increment_lines(alloc: Global) -> Result<Lines, Fail> {
-    let mut code = Lines::new(alloc);
-    let value = Operand::Reg(Reg(1));
-    let next = Label(2);
-    let sum = Instr::Op {
-        dest: Reg(1),
-        expr: Expr::Add(Operand::Reg(Reg(0)), Operand::Const(1)),
-        next: Label(1),
-    };
-    add_line(&mut code, 1, sum)?;
-    add_line(&mut code, 2, Instr::Print { value, next })?;
-    add_line(&mut code, 3, Instr::Return { value })?;
-    Ok(code)
-}
-
-fn registers(rt: &impl Abort, alloc: Global) -> Result<Names, Fail> {
-    let mut regs = Names::new(alloc);
-    regs.push(named(rt, alloc, "n")?)?;
-    regs.push(named(rt, alloc, "r")?)?;
-    Ok(regs)
-}
-
-fn program(rt: &impl Abort, alloc: Global) -> Result<Checked, Fail> {
-    let mut functions = Functions::new(alloc);
-    functions.push(Function {
-        name: named(rt, alloc, "increment")?,
-        params: 1,
-        regs: registers(rt, alloc)?,
-        code: increment_lines(alloc)?,
-    })?;
-    Ok(check(Program { functions }).expect(rt, "a well-formed program"))
-}
 
 // A list of that point alone, no turns back.
 fn back_to(alloc: Global, point: &Point) -> Result<Backs, Fail> {
@@ -102,14 +59,6 @@ fn is(reg: u32, value: i64) -> Guard {
         reg: Reg(reg),
         value,
     }
-}
-
-fn list(alloc: Global, items: &[Guard]) -> Result<Guards, Fail> {
-    let mut guards = Guards::new(alloc);
-    for guard in items {
-        guards.push(*guard)?;
-    }
-    Ok(guards)
 }
 
 fn offence(rt: &impl Abort, code: &Code, anchor: u32, guards: &[Guard]) -> Option<Skipped> {
@@ -247,7 +196,7 @@ fn shown(rt: &impl Abort, alloc: Global, checked: &Checked) -> Result<(), Fail> 
 
 #[test]
 fn guards_stand_directly_after_the_anchor(rt: HostRuntime) -> Result<(), Fail> {
-    let checked = program(&rt, rt.alloc())?;
+    let checked = alone(increment(rt.alloc())?)?;
     shown(&rt, rt.alloc(), &checked)?;
     skipped_draft(&rt, rt.alloc(), &checked)
 }

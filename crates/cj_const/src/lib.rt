@@ -13,6 +13,4 @@ pub use folding::{fold, fold_over};
 pub use search::strongest;
 
 #[cfg(test)]
-mod hand_tests;
-#[cfg(test)]
 mod tests;

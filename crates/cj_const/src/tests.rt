@@ -1,108 +1,56 @@
 //! Constant facts of base bodies, and the bodies folded over them.
 
+mod by_hand;
+
 use super::{fold, strongest};
 use cj_draft::{Code, Draft, Fact, FactTable, Facts, VInstr};
+use cj_ir::samples::{N, R, cond, function, lines, op};
 use cj_ir::{
-    Checked, Expr, FunId, Function, Functions, Instr, Label, Line, Lines, Name, Names, Operand,
-    Program, Reg, check,
+    Checked, Expr, FunId, Functions, Instr, Label, Lines, NoMemory, Operand, Program, Reg, check,
 };
 use std::alloc::Global;
 use std::process::Abort;
 use std::test::Fail;
 
-const N: Operand = Operand::Reg(Reg(0));
-
-const R: Operand = Operand::Reg(Reg(1));
-
-fn named(rt: &impl Abort, alloc: Global, name: &str) -> Result<Name, Fail> {
-    Ok(Name::of(alloc, name.as_bytes())?.expect(rt, "a name"))
-}
-
-fn cond(test: Operand, then_to: u32, else_to: u32) -> Instr {
-    Instr::Cond {
-        test,
-        then_to: Label(then_to),
-        else_to: Label(else_to),
-    }
-}
-
-fn op(expr: Expr, next: u32) -> Instr {
-    Instr::Op {
-        dest: Reg(1),
-        expr,
-        next: Label(next),
-    }
-}
-
 fn constant(value: i64, next: u32) -> Instr {
     op(Expr::Copy(Operand::Const(value)), next)
 }
 
-pub(crate) fn add_line(code: &mut Lines, name: u32, instr: Instr) -> Result<(), Fail> {
-    Ok(code.push(Line { name, instr })?)
-}
-
 // One instruction or another, and then the return of r
-fn merge(alloc: Global, one: Instr, other: Instr) -> Result<Lines, Fail> {
-    let mut code = Lines::new(alloc);
-    add_line(&mut code, 1, cond(N, 1, 2))?;
-    add_line(&mut code, 2, one)?;
-    add_line(&mut code, 3, other)?;
-    add_line(&mut code, 4, Instr::Return { value: R })?;
-    Ok(code)
+fn merge(alloc: Global, one: Instr, other: Instr) -> Result<Lines, NoMemory> {
+    let instrs = vec![in alloc; cond(N, 1, 2), one, other, Instr::Return { value: R }]?;
+    lines(alloc, instrs)
 }
 
-fn zero_divisor(alloc: Global) -> Result<Lines, Fail> {
-    let mut code = Lines::new(alloc);
+fn zero_divisor(alloc: Global) -> Result<Lines, NoMemory> {
     let quotient = Expr::Div(Operand::Const(7), Operand::Const(0));
-    add_line(&mut code, 1, op(quotient, 1))?;
-    add_line(&mut code, 2, Instr::Return { value: R })?;
-    Ok(code)
+    let instrs = vec![in alloc; op(quotient, 1), Instr::Return { value: R }]?;
+    lines(alloc, instrs)
 }
 
 // r = 0, and a branch on it
-fn decided(alloc: Global) -> Result<Lines, Fail> {
-    let mut code = Lines::new(alloc);
-    add_line(&mut code, 1, constant(0, 1))?;
-    add_line(&mut code, 2, cond(R, 2, 3))?;
-    add_line(&mut code, 3, Instr::Return { value: N })?;
-    add_line(&mut code, 4, Instr::Return { value: R })?;
-    Ok(code)
+fn decided(alloc: Global) -> Result<Lines, NoMemory> {
+    let instrs = vec![in alloc;
+        constant(0, 1),
+        cond(R, 2, 3),
+        Instr::Return { value: N },
+        Instr::Return { value: R },
+    ]?;
+    lines(alloc, instrs)
 }
 
-fn registers(rt: &impl Abort, alloc: Global) -> Result<Names, Fail> {
-    let mut regs = Names::new(alloc);
-    regs.push(named(rt, alloc, "n")?)?;
-    regs.push(named(rt, alloc, "r")?)?;
-    Ok(regs)
-}
-
-pub(crate) fn function(
-    rt: &impl Abort,
-    alloc: Global,
-    name: &str,
-    code: Lines,
-) -> Result<Function, Fail> {
-    Ok(Function {
-        name: named(rt, alloc, name)?,
-        params: 1,
-        regs: registers(rt, alloc)?,
-        code,
-    })
-}
-
-fn program(rt: &impl Abort, alloc: Global) -> Result<Checked, Fail> {
+fn program(alloc: Global) -> Result<Checked, Fail> {
     let mut functions = Functions::new(alloc);
     let equal = merge(alloc, constant(1, 3), constant(1, 3))?;
-    functions.push(function(rt, alloc, "equal", equal)?)?;
+    functions.push(function(alloc, "equal", equal)?)?;
     let different = merge(alloc, constant(1, 3), constant(2, 3))?;
-    functions.push(function(rt, alloc, "different", different)?)?;
-    functions.push(function(rt, alloc, "zero_divisor", zero_divisor(alloc)?)?)?;
-    functions.push(function(rt, alloc, "decided", decided(alloc)?)?)?;
+    functions.push(function(alloc, "different", different)?)?;
+    functions.push(function(alloc, "zero_divisor", zero_divisor(alloc)?)?)?;
+    functions.push(function(alloc, "decided", decided(alloc)?)?)?;
     let next = Label(3);
     let half = merge(alloc, constant(1, 3), Instr::Nop { next })?;
-    functions.push(function(rt, alloc, "half", half)?)?;
-    Ok(check(Program { functions }).expect(rt, "a well-formed program"))
+    functions.push(function(alloc, "half", half)?)?;
+    Ok(check(Program { functions })?)
 }
 
 // The strongest facts of a base body, and the body folded over them.
@@ -126,17 +74,17 @@ fn code_of(draft: Draft<'_>) -> Code {
 }
 
 fn fold_of(rt: &impl Abort, alloc: Global, f: u32) -> Result<Folded, Fail> {
-    fold_in(rt, alloc, &program(rt, alloc)?, f)
+    fold_in(rt, alloc, &program(alloc)?, f)
 }
 
-pub(crate) fn has_facts(table: &FactTable, at: usize, want: &[Fact]) -> bool {
+fn has_facts(table: &FactTable, at: usize, want: &[Fact]) -> bool {
     match table.items().get(at) {
         Some(Facts::Known(facts)) => facts.items() == want,
         _ => false,
     }
 }
 
-pub(crate) fn is_unreached(table: &FactTable, at: usize) -> bool {
+fn is_unreached(table: &FactTable, at: usize) -> bool {
     matches!(table.items().get(at), Some(Facts::Unreached))
 }
 

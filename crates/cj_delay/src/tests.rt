@@ -8,70 +8,31 @@ use super::delays::delayed_code;
 use super::edges::edge_lists;
 use super::paths::delay_offence;
 use cj_draft::{Back, Backs, Code, Draft, Place, Skipped, VInstr};
-use cj_ir::{
-    Checked, Duplicate, FunId, Function, Functions, Guard, Guards, Instr, Label, Line, Lines, Name,
-    Names, Operand, Program, Reg, check,
-};
+use cj_ir::samples::{N, alone, cond, function, lines, print};
+use cj_ir::{Checked, Duplicate, FunId, Guard, Guards, Instr, Label, Lines, NoMemory, Operand};
 use std::alloc::Global;
 use std::process::Abort;
 use std::test::Fail;
 
-fn print(value: i64, next: u32) -> Instr {
-    Instr::Print {
-        value: Operand::Const(value),
-        next: Label(next),
-    }
-}
-
-fn cond(then_to: u32, else_to: u32) -> Instr {
-    Instr::Cond {
-        test: Operand::Reg(Reg(0)),
-        then_to: Label(then_to),
-        else_to: Label(else_to),
-    }
-}
-
-fn line(lines: &mut Lines, name: u32, instr: Instr) -> Result<(), Fail> {
-    lines.push(Line { name, instr })?;
-    Ok(())
-}
-
 // Prints 1 where the parameter is not 0, and else 2.
-fn cold_branch(alloc: Global) -> Result<Lines, Fail> {
-    let mut lines = Lines::new(alloc);
-    line(&mut lines, 1, cond(1, 2))?;
-    line(&mut lines, 2, print(1, 3))?;
-    line(&mut lines, 3, print(2, 3))?;
-    line(&mut lines, 4, end())?;
-    Ok(lines)
+fn cold_branch(alloc: Global) -> Result<Lines, NoMemory> {
+    let instrs = vec![in alloc;
+        cond(N, 1, 2),
+        print(Operand::Const(1), 3),
+        print(Operand::Const(2), 3),
+        Instr::Return { value: N },
+    ]?;
+    lines(alloc, instrs)
 }
 
 // Prints 1 where the parameter is not 0.
-fn joined_path(alloc: Global) -> Result<Lines, Fail> {
-    let mut lines = Lines::new(alloc);
-    line(&mut lines, 1, cond(1, 2))?;
-    line(&mut lines, 2, print(1, 2))?;
-    line(&mut lines, 3, end())?;
-    Ok(lines)
-}
-
-fn end() -> Instr {
-    Instr::Return {
-        value: Operand::Reg(Reg(0)),
-    }
-}
-
-fn program(rt: &impl Abort, alloc: Global, code: Lines) -> Result<Checked, Fail> {
-    let mut regs = Names::new(alloc);
-    regs.push(Name::of(alloc, b"n")?.expect(rt, "a name"))?;
-    let mut functions = Functions::new(alloc);
-    functions.push(Function {
-        name: Name::of(alloc, b"main")?.expect(rt, "a name"),
-        params: 1,
-        regs,
-        code,
-    })?;
-    Ok(check(Program { functions }).expect(rt, "a well-formed program"))
+fn joined_path(alloc: Global) -> Result<Lines, NoMemory> {
+    let instrs = vec![in alloc;
+        cond(N, 1, 2),
+        print(Operand::Const(1), 2),
+        Instr::Return { value: N },
+    ]?;
+    lines(alloc, instrs)
 }
 
 // An Anchor to a label, with the point and the facts of that place.
@@ -185,7 +146,7 @@ fn is_else_to(instr: &VInstr, label: Label) -> bool {
 
 #[test]
 fn assume_on_a_cold_branch(rt: HostRuntime) -> Result<(), Fail> {
-    let checked = program(&rt, rt.alloc(), cold_branch(rt.alloc())?)?;
+    let checked = alone(function(rt.alloc(), "main", cold_branch(rt.alloc())?)?)?;
     let code = anchored_base(&rt, rt.alloc(), &checked)?;
     assert_eq!(&rt;
         offence(&checked, &code, &[Label(4), Label(0), Label(1), Label(3)])?,
@@ -198,7 +159,7 @@ fn assume_on_a_cold_branch(rt: HostRuntime) -> Result<(), Fail> {
 
 #[test]
 fn no_assume_where_paths_join(rt: HostRuntime) -> Result<(), Fail> {
-    let checked = program(&rt, rt.alloc(), joined_path(rt.alloc())?)?;
+    let checked = alone(function(rt.alloc(), "main", joined_path(rt.alloc())?)?)?;
     let code = anchored_base(&rt, rt.alloc(), &checked)?;
     let joined = Skipped::Joined {
         label: Label(2),

@@ -5,10 +5,8 @@ ghost use Rattle.cj_ir.specs.Values.{IsOperandWithin};
 ghost use Rattle.cj_draft.specs.Points.{IsPointWithin};
 
 use super::*;
-use cj_ir::{
-    Checked, Duplicate, Expr, FunId, Function, Functions, Instr, Label, Line, Lines, Name, Names,
-    Operand, Operands, Program, Reg, check,
-};
+use cj_ir::samples::{N, R, alone, increment, list};
+use cj_ir::{Checked, Duplicate, FunId, Label, Operand, Reg};
 use std::alloc::Global;
 use std::process::Abort;
 use std::test::Fail;
@@ -42,14 +40,6 @@ fn is_point_within(point: &Point, count: usize) -> bool
         }
     }
     true
-}
-
-fn list(alloc: Global, items: &[Operand]) -> Result<Operands, Fail> {
-    let mut operands = Operands::new(alloc);
-    for item in items {
-        operands.push(*item)?;
-    }
-    Ok(operands)
 }
 
 fn register(number: u32) -> Operand {
@@ -91,41 +81,6 @@ fn a_point_gives_its_frames_innermost_first(rt: HostRuntime) -> Result<(), Fail>
     Ok(())
 }
 
-fn named(rt: &impl Abort, alloc: Global, name: &str) -> Result<Name, Fail> {
-    Ok(Name::of(alloc, name.as_bytes())?.expect(rt, "a name"))
-}
-
-fn add_line(code: &mut Lines, name: u32, instr: Instr) -> Result<(), Fail> {
-    Ok(code.push(Line { name, instr })?)
-}
-
-fn increment_lines(alloc: Global) -> Result<Lines, Fail> {
-    let mut code = Lines::new(alloc);
-    let value = register(1);
-    let sum = Instr::Op {
-        dest: Reg(1),
-        expr: Expr::Add(register(0), Operand::Const(1)),
-        next: Label(1),
-    };
-    let next = Label(2);
-    add_line(&mut code, 1, sum)?;
-    add_line(&mut code, 2, Instr::Print { value, next })?;
-    add_line(&mut code, 3, Instr::Return { value })?;
-    Ok(code)
-}
-
-fn increment(rt: &impl Abort, alloc: Global) -> Result<Function, Fail> {
-    let mut regs = Names::new(alloc);
-    regs.push(named(rt, alloc, "n")?)?;
-    regs.push(named(rt, alloc, "r")?)?;
-    Ok(Function {
-        name: named(rt, alloc, "main")?,
-        params: 1,
-        regs,
-        code: increment_lines(alloc)?,
-    })
-}
-
 // The base draft of the first function, taken apart and adopted again.
 fn base_draft<'p>(rt: &impl Abort, alloc: Global, checked: &'p Checked) -> Result<Draft<'p>, Fail> {
     assert!(rt; !checked.program().functions.items().is_empty());
@@ -139,7 +94,7 @@ fn point_is_own(rt: &impl Abort, point: &Point, label: Label) -> Result<(), Fail
     assert_eq!(rt; point.frames.items().len(), 1);
     let frame = &point.frames.items()[0];
     assert_eq!(rt; frame.label, label);
-    assert_eq!(rt; frame.map.items(), [register(0), register(1)].as_slice());
+    assert_eq!(rt; frame.map.items(), [N, R].as_slice());
     Ok(())
 }
 
@@ -159,9 +114,7 @@ fn number_of_facts(facts: &Facts) -> Result<usize, Fail> {
 
 #[test]
 fn the_base_body_of_the_increment_has_its_places(rt: HostRuntime) -> Result<(), Fail> {
-    let mut functions = Functions::new(rt.alloc());
-    functions.push(increment(&rt, rt.alloc())?)?;
-    let checked = check(Program { functions }).expect(&rt, "a well-formed program");
+    let checked = alone(increment(rt.alloc())?)?;
     let draft = base_draft(&rt, rt.alloc(), &checked)?;
     let code = draft.code();
     assert_eq!(rt; code.regs, 2);
@@ -170,6 +123,6 @@ fn the_base_body_of_the_increment_has_its_places(rt: HostRuntime) -> Result<(), 
     point_is_own(&rt, &place.point, Label(2))?;
     assert_eq!(rt; place.backs.copy()?.items().len(), 0);
     assert_eq!(rt; number_of_facts(&place.facts)?, 0);
-    assert_eq!(rt; value_of_return(&place.instr)?, register(1));
+    assert_eq!(rt; value_of_return(&place.instr)?, R);
     Ok(())
 }

@@ -4,110 +4,53 @@ ghost use Rattle.std.specs.Prelude.{◌≡◌, [], IfOk};
 
 use super::{called_at, inline};
 use cj_draft::{Code, Draft, Pair, Skipped, VInstr};
+use cj_ir::samples::{N, R, call, cond, function, lines, name, op, print};
 use cj_ir::{
-    Checked, Expr, FunId, Function, Functions, Instr, Label, Line, Lines, Name, Names, Operand,
-    Operands, Program, Reg, check,
+    Checked, Expr, FunId, Functions, Instr, Label, Lines, NoMemory, Operand, Program, Reg, check,
 };
 use std::alloc::Global;
 use std::process::Abort;
 use std::test::Fail;
 
-fn named(rt: &impl Abort, alloc: Global, name: &str) -> Result<Name, Fail> {
-    Ok(Name::of(alloc, name.as_bytes())?.expect(rt, "a name"))
-}
-
-fn add_line(code: &mut Lines, name: u32, instr: Instr) -> Result<(), Fail> {
-    Ok(code.push(Line { name, instr })?)
-}
-
 fn reg(number: u32) -> Operand {
     Operand::Reg(Reg(number))
 }
 
-fn cond(then_to: u32, else_to: u32) -> Instr {
-    Instr::Cond {
-        test: reg(0),
-        then_to: Label(then_to),
-        else_to: Label(else_to),
-    }
-}
-
-// The value goes to register 1.
-fn op(expr: Expr, next: u32) -> Instr {
-    Instr::Op {
-        dest: Reg(1),
-        expr,
-        next: Label(next),
-    }
-}
-
-// A call whose value goes to register 1.
-fn call(alloc: Global, function: u32, arg: u32, next: u32) -> Result<Instr, Fail> {
-    let mut args = Operands::new(alloc);
-    args.push(reg(arg))?;
-    Ok(Instr::Call {
-        dest: Reg(1),
-        function: FunId(function),
-        args,
-        next: Label(next),
-    })
-}
-
 // main(n; r, s): call r = acc(n) -> 2 · print r -> 3 · return r
-fn main_lines(alloc: Global) -> Result<Lines, Fail> {
-    let mut code = Lines::new(alloc);
-    let value = reg(1);
-    let next = Label(2);
-    add_line(&mut code, 1, call(alloc, 1, 0, 1)?)?;
-    add_line(&mut code, 2, Instr::Print { value, next })?;
-    add_line(&mut code, 3, Instr::Return { value })?;
-    Ok(code)
+fn main_lines(alloc: Global) -> Result<Lines, NoMemory> {
+    let instrs = vec![in alloc;
+        call(alloc, 1, N, 1)?,
+        print(R, 2),
+        Instr::Return { value: R },
+    ]?;
+    lines(alloc, instrs)
 }
 
-// acc(x; t): op t = t + x -> 2 · return t
-fn acc_lines(alloc: Global) -> Result<Lines, Fail> {
-    let mut code = Lines::new(alloc);
-    let value = reg(1);
-    add_line(&mut code, 1, op(Expr::Add(value, reg(0)), 1))?;
-    add_line(&mut code, 2, Instr::Return { value })?;
-    Ok(code)
+// acc(n; r): op r = r + n -> 2 · return r
+fn acc_lines(alloc: Global) -> Result<Lines, NoMemory> {
+    let instrs = vec![in alloc; op(Expr::Add(R, N), 1), Instr::Return { value: R }]?;
+    lines(alloc, instrs)
 }
 
-// down(k; r): cond k -> 2, 4 · op r = k - 1 -> 3 · call r = down(r) -> 4 · return r
-fn down_lines(alloc: Global) -> Result<Lines, Fail> {
-    let mut code = Lines::new(alloc);
-    let value = reg(1);
-    add_line(&mut code, 1, cond(1, 3))?;
-    add_line(&mut code, 2, op(Expr::Sub(reg(0), Operand::Const(1)), 2))?;
-    add_line(&mut code, 3, call(alloc, 2, 1, 3)?)?;
-    add_line(&mut code, 4, Instr::Return { value })?;
-    Ok(code)
+// down(n; r): cond n -> 2, 4 · op r = n - 1 -> 3 · call r = down(r) -> 4 · return r
+fn down_lines(alloc: Global) -> Result<Lines, NoMemory> {
+    let instrs = vec![in alloc;
+        cond(N, 1, 3),
+        op(Expr::Sub(N, Operand::Const(1)), 2),
+        call(alloc, 2, R, 3)?,
+        Instr::Return { value: R },
+    ]?;
+    lines(alloc, instrs)
 }
 
-fn registers(rt: &impl Abort, alloc: Global) -> Result<Names, Fail> {
-    let mut regs = Names::new(alloc);
-    regs.push(named(rt, alloc, "n")?)?;
-    regs.push(named(rt, alloc, "r")?)?;
-    Ok(regs)
-}
-
-fn function(rt: &impl Abort, alloc: Global, name: &str, code: Lines) -> Result<Function, Fail> {
-    Ok(Function {
-        name: named(rt, alloc, name)?,
-        params: 1,
-        regs: registers(rt, alloc)?,
-        code,
-    })
-}
-
-fn program(rt: &impl Abort, alloc: Global) -> Result<Checked, Fail> {
+fn program(alloc: Global) -> Result<Checked, Fail> {
     let mut functions = Functions::new(alloc);
-    let mut main = function(rt, alloc, "main", main_lines(alloc)?)?;
-    main.regs.push(named(rt, alloc, "s")?)?;
+    let mut main = function(alloc, "main", main_lines(alloc)?)?;
+    main.regs.push(name(alloc, "s")?)?;
     functions.push(main)?;
-    functions.push(function(rt, alloc, "acc", acc_lines(alloc)?)?)?;
-    functions.push(function(rt, alloc, "down", down_lines(alloc)?)?)?;
-    Ok(check(Program { functions }).expect(rt, "a well-formed program"))
+    functions.push(function(alloc, "acc", acc_lines(alloc)?)?)?;
+    functions.push(function(alloc, "down", down_lines(alloc)?)?)?;
+    Ok(check(Program { functions })?)
 }
 
 fn has_counts(code: &Code, regs: u32, labels: usize) -> bool {
@@ -211,7 +154,7 @@ fn has_itself(rt: &impl Abort, code: &Code) {
 
 #[test]
 fn a_call_is_inlined_once(rt: HostRuntime) -> Result<(), Fail> {
-    let checked = program(&rt, rt.alloc())?;
+    let checked = program(rt.alloc())?;
     let acc = base(&rt, rt.alloc(), &checked, 1)?;
     let made = made(&rt, &checked, 0, 0, &acc)?;
     has_accumulator(&rt, made.code());
@@ -220,7 +163,7 @@ fn a_call_is_inlined_once(rt: HostRuntime) -> Result<(), Fail> {
 
 #[test]
 fn a_function_is_inlined_into_itself(rt: HostRuntime) -> Result<(), Fail> {
-    let checked = program(&rt, rt.alloc())?;
+    let checked = program(rt.alloc())?;
     let callee = base(&rt, rt.alloc(), &checked, 2)?;
     let made = made(&rt, &checked, 2, 2, &callee)?;
     has_itself(&rt, made.code());

@@ -11,6 +11,4 @@ pub use lowering::lower;
 pub use pipelines::pipeline;
 
 #[cfg(test)]
-mod lowering_tests;
-#[cfg(test)]
 mod tests;

@@ -5,85 +5,35 @@ ghost use Rattle.cj_profile.specs.Snapshots.{FitsFunction};
 
 use super::plan;
 use cj_draft::{Pass, Passes};
+use cj_ir::samples::{N, R, call, cond, function, increment, lines};
 use cj_ir::{
-    Checked, Expr, FunId, Function, Functions, Guard, Instr, Label, Labels, Line, Lines, Name,
-    Names, Operand, Operands, Program, Reg, check,
+    Checked, FunId, Functions, Guard, Instr, Labels, Lines, NoMemory, Program, Reg, check,
 };
 use cj_profile::{EdgeNote, EdgeNotes, ParamNote, ParamNotes, Snapshot};
 use std::alloc::Global;
 use std::process::Abort;
 use std::test::Fail;
 
-const MAIN: FunId = FunId(0);
-
-const N: Operand = Operand::Reg(Reg(0));
-
 const NO_EDGE: EdgeNote = EdgeNote {
     then_count: 0,
     else_count: 0,
 };
 
-fn named(rt: &impl Abort, alloc: Global, name: &str) -> Result<Name, Fail> {
-    Ok(Name::of(alloc, name.as_bytes())?.expect(rt, "a name"))
+// 1: cond n -> 2, 3   2: call r = main(n) -> 3   3: return r
+fn branch_lines(alloc: Global) -> Result<Lines, NoMemory> {
+    let instrs = vec![in alloc;
+        cond(N, 1, 2),
+        call(alloc, 0, N, 2)?,
+        Instr::Return { value: R },
+    ]?;
+    lines(alloc, instrs)
 }
 
-fn add_line(code: &mut Lines, name: u32, instr: Instr) -> Result<(), Fail> {
-    Ok(code.push(Line { name, instr })?)
-}
-
-// 1: op n = n + 1 -> 2   2: print n -> 3   3: return n
-fn increment_lines(alloc: Global) -> Result<Lines, Fail> {
-    let mut code = Lines::new(alloc);
-    let sum = Instr::Op {
-        dest: Reg(0),
-        expr: Expr::Add(N, Operand::Const(1)),
-        next: Label(1),
-    };
-    let next = Label(2);
-    add_line(&mut code, 1, sum)?;
-    add_line(&mut code, 2, Instr::Print { value: N, next })?;
-    add_line(&mut code, 3, Instr::Return { value: N })?;
-    Ok(code)
-}
-
-// 1: cond n -> 2, 3   2: call n = main(n) -> 3   3: return n
-fn branch_lines(alloc: Global) -> Result<Lines, Fail> {
-    let mut code = Lines::new(alloc);
-    let branch = Instr::Cond {
-        test: N,
-        then_to: Label(1),
-        else_to: Label(2),
-    };
-    let mut args = Operands::new(alloc);
-    args.push(N)?;
-    let call = Instr::Call {
-        dest: Reg(0),
-        function: MAIN,
-        args,
-        next: Label(2),
-    };
-    add_line(&mut code, 1, branch)?;
-    add_line(&mut code, 2, call)?;
-    add_line(&mut code, 3, Instr::Return { value: N })?;
-    Ok(code)
-}
-
-fn function(rt: &impl Abort, alloc: Global, name: &str, code: Lines) -> Result<Function, Fail> {
-    let mut regs = Names::new(alloc);
-    regs.push(named(rt, alloc, "n")?)?;
-    Ok(Function {
-        name: named(rt, alloc, name)?,
-        params: 1,
-        regs,
-        code,
-    })
-}
-
-fn program(rt: &impl Abort, alloc: Global) -> Result<Checked, Fail> {
+fn program(alloc: Global) -> Result<Checked, Fail> {
     let mut functions = Functions::new(alloc);
-    functions.push(function(rt, alloc, "main", increment_lines(alloc)?)?)?;
-    functions.push(function(rt, alloc, "branch", branch_lines(alloc)?)?)?;
-    Ok(check(Program { functions }).expect(rt, "a well-formed program"))
+    functions.push(increment(alloc)?)?;
+    functions.push(function(alloc, "branch", branch_lines(alloc)?)?)?;
+    Ok(check(Program { functions })?)
 }
 
 // One parameter and three labels, of which the first has that note.
@@ -118,7 +68,7 @@ fn planned(
     level: u8,
     told: &Snapshot,
 ) -> Result<Passes, Fail> {
-    let checked = program(rt, alloc)?;
+    let checked = program(alloc)?;
     let f = FunId(number);
     assert!(rt; (number as usize) < checked.program().functions.items().len());
     assert!(rt; fits(&checked, f, told));

@@ -5,10 +5,8 @@ ghost use Rattle.cj_profile.specs.Seats.{program_of, Belongs};
 ghost use Rattle.cj_profile.specs.Worked.{IsIncrement};
 
 use super::{EdgeNote, JobAnswer, ParamNote, Profile, ProfileSeat};
-use cj_ir::{
-    Checked, Edge, Expr, FunId, Function, Functions, Instr, Label, Line, Lines, Name, Names,
-    Operand, Program, Reg, check,
-};
+use cj_ir::samples::{alone, increment};
+use cj_ir::{Checked, Edge, FunId, Label};
 use std::alloc::Global;
 use std::process::Abort;
 use std::test::Fail;
@@ -23,44 +21,6 @@ const NO_EDGE: EdgeNote = EdgeNote {
 fn is_shared<T: Send + Sync>(_value: &T) {}
 
 fn is_sent<T: Send>(_value: &T) {}
-
-fn named(rt: &impl Abort, alloc: Global, name: &str) -> Result<Name, Fail> {
-    Ok(Name::of(alloc, name.as_bytes())?.expect(rt, "a name"))
-}
-
-fn add_line(code: &mut Lines, name: u32, instr: Instr) -> Result<(), Fail> {
-    Ok(code.push(Line { name, instr })?)
-}
-
-// 1: op r = n + 1 -> 2   2: print r -> 3   3: return r
-fn increment_lines(alloc: Global) -> Result<Lines, Fail> {
-    let mut code = Lines::new(alloc);
-    let value = Operand::Reg(Reg(1));
-    let sum = Instr::Op {
-        dest: Reg(1),
-        expr: Expr::Add(Operand::Reg(Reg(0)), Operand::Const(1)),
-        next: Label(1),
-    };
-    let next = Label(2);
-    add_line(&mut code, 1, sum)?;
-    add_line(&mut code, 2, Instr::Print { value, next })?;
-    add_line(&mut code, 3, Instr::Return { value })?;
-    Ok(code)
-}
-
-fn increment(rt: &impl Abort, alloc: Global) -> Result<Checked, Fail> {
-    let mut regs = Names::new(alloc);
-    regs.push(named(rt, alloc, "n")?)?;
-    regs.push(named(rt, alloc, "r")?)?;
-    let mut functions = Functions::new(alloc);
-    functions.push(Function {
-        name: named(rt, alloc, "main")?,
-        params: 1,
-        regs,
-        code: increment_lines(alloc)?,
-    })?;
-    Ok(check(Program { functions }).expect(rt, "a well-formed program"))
-}
 
 // The first function has one parameter, and at least three labels.
 fn is_increment(checked: &Checked) -> bool
@@ -78,7 +38,7 @@ fn begin(rt: &impl Abort, alloc: Global) -> Result<(Profile, ProfileSeat), Fail>
     ensures own { IfOk result (λ made. Belongs made.0 made.1 × IsIncrement (program_of made.0)) }
     ensures first { IfOk result (λ made. (made.1.first ≡ true) × (made.1.splits ≡ 0)) }
 {
-    let checked = increment(rt, alloc)?;
+    let checked = alone(increment(alloc)?)?;
     assert!(rt; is_increment(&checked));
     Ok(Profile::make(alloc, &checked)?)
 }

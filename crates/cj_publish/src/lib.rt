@@ -14,6 +14,4 @@ pub use seats::{CodeSeat, CodeTable};
 pub use view::Cell;
 
 #[cfg(test)]
-mod crowd_tests;
-#[cfg(test)]
 mod tests;

@@ -10,44 +10,19 @@ ghost use Rattle.cj_publish.specs.Seats.{view_of, key_of, program_of, IsSeatOf, 
 ghost use Rattle.cj_publish.specs.Calls.{IsReady};
 ghost use Rattle.cj_publish.specs.Fetched.{main_of};
 
+mod crowd;
+
 use super::*;
 use cj_draft::{Code, Draft, Place, VInstr, Version};
-use cj_ir::{
-    Checked, FunId, Function, Functions, Instr, Line, Lines, Name, Names, Operand, Program, check,
-};
+use cj_ir::samples::{alone, constant_zero};
+use cj_ir::{Checked, FunId};
 use cj_spelling::laws::named_code_is_in_range;
 use cj_spelling::{Words, encode};
 use std::alloc::Global;
 use std::process::Abort;
 use std::test::Fail;
 
-pub(crate) const MAIN: FunId = FunId(0);
-
-// `fun NAME() { 1: return 0 }`
-fn constant_zero(rt: &impl Abort, alloc: Global, name: &str) -> Result<Function, Fail> {
-    let name = Name::of(alloc, name.as_bytes())?.expect(rt, "a name");
-    let value = Operand::Const(0);
-    let mut code = Lines::new(alloc);
-    code.push(Line {
-        name: 1,
-        instr: Instr::Return { value },
-    })?;
-    Ok(Function {
-        name,
-        params: 0,
-        regs: Names::new(alloc),
-        code,
-    })
-}
-
-// A program of functions that return 0.
-pub(crate) fn zeros(rt: &impl Abort, alloc: Global, names: &[&str]) -> Result<Checked, Fail> {
-    let mut functions = Functions::new(alloc);
-    for name in names {
-        functions.push(constant_zero(rt, alloc, name)?)?;
-    }
-    Ok(check(Program { functions }).expect(rt, "a well-formed program"))
-}
+const MAIN: FunId = FunId(0);
 
 fn is_no_anchor(place: &Place) -> bool
     ensures { result ≡ true → IsNoAnchor place.now.instr }
@@ -70,12 +45,7 @@ fn has_no_anchors(code: &Code) -> bool
 }
 
 // The words of a function's base body.
-pub(crate) fn base_words(
-    rt: &impl Abort,
-    alloc: Global,
-    checked: &Checked,
-    f: FunId,
-) -> Result<Words, Fail>
+fn base_words(rt: &impl Abort, alloc: Global, checked: &Checked, f: FunId) -> Result<Words, Fail>
     requires { f.0 < length checked.now.functions }
     ensures { IfOk result (λ words. SpellsVersion checked.now f 0 words) }
 {
@@ -106,7 +76,7 @@ fn is_claimed(table: &CodeTable, seat: &mut CodeSeat, words: &[u64], at: u64) ->
 #[test]
 fn of_two_versions_the_greater_offset_stays(rt: HostRuntime) -> Result<(), Fail> {
     let alloc = rt.alloc();
-    let checked = zeros(&rt, alloc, &["main"])?;
+    let checked = alone(constant_zero(alloc, "main")?)?;
     assert!(rt; checked.program().functions.items().len() == 1);
     let words = base_words(&rt, alloc, &checked, MAIN)?;
     assert_eq!(rt; words.items().len(), 17);
@@ -131,7 +101,7 @@ fn of_two_versions_the_greater_offset_stays(rt: HostRuntime) -> Result<(), Fail>
 #[test]
 fn a_full_table_keeps_its_versions(rt: HostRuntime) -> Result<(), Fail> {
     let alloc = rt.alloc();
-    let checked = zeros(&rt, alloc, &["main"])?;
+    let checked = alone(constant_zero(alloc, "main")?)?;
     assert!(rt; checked.program().functions.items().len() == 1);
     let words = base_words(&rt, alloc, &checked, MAIN)?;
     let (table, mut seat) = CodeTable::make(alloc, &checked, 30)?;

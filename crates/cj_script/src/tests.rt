@@ -1,62 +1,34 @@
 //! Scripts behind a program of two functions.
 
 use crate::{read_begun, read_script};
+use cj_ir::samples::{N, R, cond, constant_zero, name, names};
 use cj_ir::{
-    Checked, Edge, FunId, Function, Functions, Instr, Label, Line, Lines, Name, Names, Operand,
-    Program, Reg, Setup, check,
+    Checked, Edge, FunId, Function, Functions, Instr, Label, Line, Lines, Operand, Program, Reg,
+    Setup, check,
 };
 use cj_tokens::{Kind, ParseError, Refused, Terminal, Tokens};
 use std::alloc::Global;
 use std::test::Fail;
 
-fn names(alloc: Global, words: &[&str]) -> Result<Names, Fail> {
-    let mut names = Names::new(alloc);
-    for word in words {
-        let name = Name::of(alloc, word.as_bytes())?.ok_or("a name")?;
-        names.push(name)?;
-    }
-    Ok(names)
-}
-
 fn line(name: u32, instr: Instr) -> Line {
     Line { name, instr }
-}
-
-fn returning(reg: Reg) -> Instr {
-    Instr::Return {
-        value: Operand::Reg(reg),
-    }
 }
 
 // fun main(n, m; r) { 1: cond n -> 2, 7  2: return m  7: return r }  fun leaf() { 1: return 0 }
 fn program(alloc: Global) -> Result<Checked, Fail> {
     let mut code = Lines::new(alloc);
-    let test = Instr::Cond {
-        test: Operand::Reg(Reg(0)),
-        then_to: Label(1),
-        else_to: Label(2),
-    };
-    code.push(line(1, test))?;
-    code.push(line(2, returning(Reg(1))))?;
-    code.push(line(7, returning(Reg(2))))?;
-    let mut leaf = Lines::new(alloc);
-    let nothing = Instr::Return {
-        value: Operand::Const(0),
-    };
-    leaf.push(line(1, nothing))?;
+    code.push(line(1, cond(N, 1, 2)))?;
+    code.push(line(2, Instr::Return { value: R }))?;
+    let value = Operand::Reg(Reg(2));
+    code.push(line(7, Instr::Return { value }))?;
     let mut functions = Functions::new(alloc);
     functions.push(Function {
-        name: Name::of(alloc, b"main")?.ok_or("a name")?,
+        name: name(alloc, "main")?,
         params: 2,
         regs: names(alloc, &["n", "m", "r"])?,
         code,
     })?;
-    functions.push(Function {
-        name: Name::of(alloc, b"leaf")?.ok_or("a name")?,
-        params: 0,
-        regs: Names::new(alloc),
-        code: leaf,
-    })?;
+    functions.push(constant_zero(alloc, "leaf")?)?;
     Ok(check(Program { functions })?)
 }
 

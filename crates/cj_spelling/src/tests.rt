@@ -6,38 +6,15 @@ ghost use Rattle.cj_draft.specs.Bodies.{IsNoAnchor, HasNoAnchors};
 use super::*;
 use crate::laws::named_code_is_in_range;
 use cj_draft::{Code, Draft, Frames, Pair, Pairs, Place, Point, PointFrame, VInstr, Version};
+use cj_ir::samples::{alone, constant_zero};
 use cj_ir::{
-    Checked, Expr, FunId, Function, Functions, Guard, Guards, Instr, Label, Line, Lines, Name,
-    Names, NoMemory, Operand, Operands, Program, Reg, Sequence, check,
+    Checked, Expr, FunId, Guard, Guards, Label, NoMemory, Operand, Operands, Reg, Sequence,
 };
 use std::alloc::Global;
 use std::process::Abort;
 use std::test::Fail;
 
 const RETURN: [u64; 17] = [17, 1, 0, 0, 0, 1, 6, 1, 0, 1, 0, 0, 0, 0, 1, 0, 0];
-
-fn main_function(rt: &impl Abort, alloc: Global) -> Result<Function, Fail> {
-    let name = Name::of(alloc, "main".as_bytes())?.expect(rt, "a name");
-    let value = Operand::Const(0);
-    let mut code = Lines::new(alloc);
-    code.push(Line {
-        name: 1,
-        instr: Instr::Return { value },
-    })?;
-    Ok(Function {
-        name,
-        params: 0,
-        regs: Names::new(alloc),
-        code,
-    })
-}
-
-// `fun main() { 1: return 0 }`
-fn main_program(rt: &impl Abort, alloc: Global) -> Result<Program, Fail> {
-    let mut functions = Functions::new(alloc);
-    functions.push(main_function(rt, alloc)?)?;
-    Ok(Program { functions })
-}
 
 fn is_no_anchor(place: &Place) -> bool
     ensures { result ≡ true → IsNoAnchor place.now.instr }
@@ -140,10 +117,7 @@ fn call(alloc: Global) -> Result<VInstr, NoMemory> {
 #[test]
 fn one_return_takes_seventeen_words(rt: HostRuntime) -> Result<(), Fail> {
     let alloc = rt.alloc();
-    let checked = match check(main_program(&rt, alloc)?) {
-        Ok(checked) => checked,
-        Err(_) => return Err(Fail::from(NoMemory)),
-    };
+    let checked = alone(constant_zero(alloc, "main")?)?;
     assert_eq!(rt;
         base_words(&rt, alloc, &checked)?.items(),
         RETURN.as_slice()

@@ -8,9 +8,10 @@ ghost use Rattle.cj_publish.specs.Seats.{view_of, key_of, program_of, Belongs, I
 ghost use Rattle.cj_publish.specs.Seen.{SeenAt};
 ghost use Rattle.cj_publish.specs.Fetched.{main_of};
 
-use super::*;
-use crate::tests::{MAIN, base_words, zeros};
-use cj_ir::{Checked, FunId, NoMemory};
+use super::{MAIN, base_words};
+use crate::*;
+use cj_ir::samples::constant_zero;
+use cj_ir::{Checked, FunId, Functions, NoMemory, Program, check};
 use cj_spelling::encode;
 use cj_spelling::laws::named_code_is_in_range;
 use std::alloc::Global;
@@ -167,10 +168,18 @@ fn pair_visits(rt: &impl Threads, shop: &Shop<'_>, a: &mut CodeSeat, b: &mut Cod
     one && two
 }
 
+// Two functions that return 0.
+fn pair_of_zeros(alloc: Global) -> Result<Checked, Fail> {
+    let mut functions = Functions::new(alloc);
+    functions.push(constant_zero(alloc, "main")?)?;
+    functions.push(constant_zero(alloc, "other")?)?;
+    Ok(check(Program { functions })?)
+}
+
 #[test]
 fn four_seats_find_what_was_published(rt: HostRuntime) -> Result<(), Fail> {
     let alloc = rt.alloc();
-    let checked = zeros(&rt, alloc, &["main", "other"])?;
+    let checked = pair_of_zeros(alloc)?;
     assert!(rt; checked.program().functions.items().len() == 2);
     let main = base_words(&rt, alloc, &checked, MAIN)?;
     let other = base_words(&rt, alloc, &checked, OTHER)?;

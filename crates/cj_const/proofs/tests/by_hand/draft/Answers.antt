@@ -11,7 +11,7 @@ use Rattle.cj_draft.specs.Bodies.{Body}
 use Rattle.cj_draft.specs.WellNamed.{IsContextOf}
 use Rattle.cj_draft.specs.Sound.{Sound}
 use Rattle.cj_const.proofs.BehindSound.{behind_sound, first_fits, regs_of_base}
-use Rattle.cj_const.proofs.hand_tests.draft.Goals as goal
+use Rattle.cj_const.proofs.tests.by_hand.draft.Goals as goal
 
 pub adopt_in-requires-clause-context : goal.adopt_in-requires-clause-context
 adopt_in-requires-clause-context c c' =

@@ -1,9 +1,9 @@
 //! Lowering of base bodies, and of drafts with Anchors.
 
 use crate::lower;
-use crate::tests::program;
 use cj_anchor::insert_anchors;
 use cj_draft::{Code, Draft, VInstr};
+use cj_ir::samples::{alone, increment, jump};
 use cj_ir::{Checked, FunId, Label, Labels};
 use std::alloc::Global;
 use std::process::Abort;
@@ -36,20 +36,16 @@ fn stands_for(code: &Code, at: usize, label: u32) -> bool {
     }
 }
 
-fn base_of<'p>(
-    rt: &impl Abort,
-    alloc: Global,
-    checked: &'p Checked,
-    number: u32,
-) -> Result<Draft<'p>, Fail> {
-    assert!(rt; (number as usize) < checked.program().functions.items().len());
-    Ok(Draft::of_base(alloc, checked, FunId(number))?)
+// The base draft of the first function.
+fn base_of<'p>(rt: &impl Abort, alloc: Global, checked: &'p Checked) -> Result<Draft<'p>, Fail> {
+    assert!(rt; 0 < checked.program().functions.items().len());
+    Ok(Draft::of_base(alloc, checked, FunId(0))?)
 }
 
 #[test]
 fn a_base_body_keeps_its_labels(rt: HostRuntime) -> Result<(), Fail> {
-    let checked = program(&rt, rt.alloc())?;
-    let version = lower(base_of(&rt, rt.alloc(), &checked, 0)?)?;
+    let checked = alone(increment(rt.alloc())?)?;
+    let version = lower(base_of(&rt, rt.alloc(), &checked)?)?;
     let code = version.code();
     assert!(rt; has_places(code, 0, 3));
     assert!(rt; goes_to(code, 0, 1));
@@ -60,8 +56,8 @@ fn a_base_body_keeps_its_labels(rt: HostRuntime) -> Result<(), Fail> {
 
 #[test]
 fn a_label_that_is_not_reached_goes(rt: HostRuntime) -> Result<(), Fail> {
-    let checked = program(&rt, rt.alloc())?;
-    let version = lower(base_of(&rt, rt.alloc(), &checked, 1)?)?;
+    let checked = alone(jump(rt.alloc())?)?;
+    let version = lower(base_of(&rt, rt.alloc(), &checked)?)?;
     assert!(rt; is_jump_to_return(version.code()));
     Ok(())
 }
@@ -84,8 +80,8 @@ fn anchored<'p>(draft: Draft<'p>) -> Result<Draft<'p>, Fail> {
 
 #[test]
 fn edges_go_past_the_anchors_that_were_inserted(rt: HostRuntime) -> Result<(), Fail> {
-    let checked = program(&rt, rt.alloc())?;
-    let draft = anchored(base_of(&rt, rt.alloc(), &checked, 1)?)?;
+    let checked = alone(jump(rt.alloc())?)?;
+    let draft = anchored(base_of(&rt, rt.alloc(), &checked)?)?;
     assert!(rt; has_places(draft.code(), 3, 12));
     assert!(rt; is_jump_to_return(lower(draft)?.code()));
     Ok(())

@@ -5,7 +5,7 @@ use Rattle.cj_draft.specs.declared.instructions.VInstr.{VInstr}
 use Rattle.cj_draft.specs.declared.instructions.VInstr.TheVariants.{Store}
 use Rattle.cj_draft.specs.Effects.{version_effect, Plain}
 use Rattle.cj_const.proofs.BehindSound.{store_fails}
-use Rattle.cj_const.proofs.hand_tests.fails.Goals as goal
+use Rattle.cj_const.proofs.tests.by_hand.fails.Goals as goal
 
 pub returns-in-Store : goal.returns-in-Store
 returns-in-Store c =

@@ -8,33 +8,30 @@ ghost use Rattle.cj_draft.specs.declared.instructions.VInstr.TheVariants.{Assume
 ghost use Rattle.cj_draft.specs.Effects.{version_effect, Plain};
 ghost use Rattle.cj_const.specs.Behind.{reg, label, failing, six, swap, guards, place, behind};
 
+use super::{has_facts, is_unreached};
 use crate::knowledge::{known, row_of};
-use crate::tests::{add_line, function, has_facts, is_unreached};
 use crate::{fold, strongest};
 use cj_draft::laws::base_body_is_sound;
 use cj_draft::{
     Backs, Code, Draft, Fact, FactList, FactTable, Facts, Pair, Pairs, Place, Places, Point, VInstr,
 };
+use cj_ir::samples::{alone, function, lines};
 use cj_ir::{
-    Checked, Duplicate, Expr, FunId, Function, Functions, Guard, Guards, Instr, Label, Lines,
-    NoMemory, Operand, Program, Reg, check,
+    Checked, Duplicate, Expr, FunId, Function, Guard, Guards, Instr, Label, NoMemory, Operand, Reg,
 };
 use std::alloc::Global;
 use std::process::Abort;
 use std::test::Fail;
 
 // main(n; r): store [-1] = 0
-fn program(rt: &impl Abort, alloc: Global) -> Result<Checked, Fail> {
-    let mut code = Lines::new(alloc);
+fn program(alloc: Global) -> Result<Checked, Fail> {
     let store = Instr::Store {
         address: Operand::Const(-1),
         value: Operand::Const(0),
         next: Label(0),
     };
-    add_line(&mut code, 1, store)?;
-    let mut functions = Functions::new(alloc);
-    functions.push(function(rt, alloc, "main", code)?)?;
-    Ok(check(Program { functions }).expect(rt, "a well-formed program"))
+    let instrs = vec![in alloc; store]?;
+    Ok(alone(function(alloc, "main", lines(alloc, instrs)?)?)?)
 }
 
 // No memory has the address.
@@ -190,13 +187,13 @@ fn fact(number: u32, value: i64) -> Fact
 }
 
 fn facts_of(rt: &impl Abort, alloc: Global) -> Result<FactTable, Fail> {
-    let checked = program(rt, alloc)?;
+    let checked = program(alloc)?;
     let draft = draft(rt, alloc, &checked)?;
     Ok(strongest(alloc, &draft)?)
 }
 
 fn folded(rt: &impl Abort, alloc: Global) -> Result<Code, Fail> {
-    let checked = program(rt, alloc)?;
+    let checked = program(alloc)?;
     let (_, _, code) = fold(draft(rt, alloc, &checked)?)?.into_parts();
     Ok(code)
 }

@@ -1,6 +1,6 @@
 use Rattle.std.proofs.Common.{◌≡◌, None}
 use Rattle.cj_publish.specs.Seats.{view_of, Belongs, IsSame}
-use Rattle.cj_publish.proofs.crowd_tests.turns.Given as goal
+use Rattle.cj_publish.proofs.tests.crowd.turns.Given as goal
 
 abbrev pub invariant-loop-round : goal.invariant-loop-round
 invariant-loop-round l = record {
