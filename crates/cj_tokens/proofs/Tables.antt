@@ -1,14 +1,12 @@
 -- What is looked up in the tables of keywords and marks.
-use Rattle.std.proofs.Common.{◌≡◌, ◌<◌, ◌≤◌, ℕ, Bool, true, false, cond, List, [], ◌∷◌, length, get_or, refl, arith}
+use Rattle.std.proofs.Common.{◌≡◌, ℕ, ◌+◌, Bool, true, false, cond, List, [], ◌∷◌, refl, sym, ◌∙◌}
 use Rattle.std.proofs.lemmas.Bool.{not-true, and_parts}
-use Rattle.std.specs.Prelude.{◌||◌, not, nat_eq}
-use Rattle.std.specs.List.{list_all, list_any}
+use Rattle.std.specs.Prelude.{◌||◌, not, nat_eq, Option, None, Some, unwrap_or, slice_get}
+use Rattle.std.specs.List.{list_all, list_any, position_from, zip}
 use Rattle.std.specs.Str.{bytes_eq}
-use Rattle.cj_ir.specs.Texts.{is_keyword}
-use Rattle.cj_tokens.specs.Beginnings.{beginning}
-use Rattle.cj_tokens.specs.Bytes.{begins}
+use Rattle.cj_ir.specs.Texts.{keywords, keyword_place, is_keyword}
 use Rattle.cj_tokens.specs.Lexemes.{number_of}
-use Rattle.cj_tokens.specs.Spellings.{lookup, keyword_table, mark_table, word_terminal, mark_terminal}
+use Rattle.cj_tokens.specs.Spellings.{lookup, keyword_terminals, keyword_table, mark_table, word_terminal, mark_terminal}
 use Rattle.cj_tokens.specs.declared.terminal.Terminal.{Terminal}
 use Rattle.cj_tokens.specs.declared.terminal.Terminal.TheVariants.{Name, BadCharacter}
 
@@ -68,35 +66,36 @@ pub free_is_name : (t : List ℕ) → not (is_keyword t) ≡ true → word_termi
 unfolding keyword_table
 free_is_name t h = lookup_none keyword_table Name t (not-true (is_keyword t) h)
 
--- a spelling of a table with that first byte stands among those that begin with it
-pub lookup_first : (table : Table) (other : Terminal) (b : ℕ) (bs : List ℕ) → lookup (beginning b table) other (b ∷ bs) ≡ lookup table other (b ∷ bs)
-unfolding beginning
-lookup_first [] other b bs = refl
-lookup_first (([], t) ∷ es) other b bs = lookup_first es other b bs
-lookup_first ((c ∷ cs, t) ∷ es) other b bs = go (nat_eq c b) refl (lookup_first es other b bs)
+-- what stands beside the place that was found
+beside : (ℕ → Terminal) → Terminal → Option ℕ → Terminal
+beside at other None = other
+beside at other (Some place) = at place
+
+terminals_from : (ℕ → Terminal) → ℕ → List (List ℕ) → List Terminal
+terminals_from at n [] = []
+terminals_from at n (word ∷ words) = at n ∷ terminals_from at (n + 1) words
+
+lookup_by_place : (at : ℕ → Terminal) (other : Terminal) (t : List ℕ) (n : ℕ) (words : List (List ℕ)) →
+    lookup (zip words (terminals_from at n words)) other t ≡ beside at other (position_from (λ word. bytes_eq word t) n words)
+unfolding beside terminals_from
+lookup_by_place at other t n [] = refl
+lookup_by_place at other t n (word ∷ words) = go (bytes_eq word t) (lookup_by_place at other t (n + 1) words)
   where
-    go : (v : Bool) → nat_eq c b ≡ v → lookup (beginning b es) other (b ∷ bs) ≡ lookup es other (b ∷ bs) → lookup (cond v ((c ∷ cs, t) ∷ beginning b es) (beginning b es)) other (b ∷ bs) ≡ lookup ((c ∷ cs, t) ∷ es) other (b ∷ bs)
-    go true e i = rw i refl
-    go false e i = rw e i
+    go : (c : Bool) →
+        lookup (zip words (terminals_from at (n + 1) words)) other t ≡ beside at other (position_from (λ word. bytes_eq word t) (n + 1) words) →
+        cond c (at n) (lookup (zip words (terminals_from at (n + 1) words)) other t) ≡ beside at other (cond c (Some n) (position_from (λ word. bytes_eq word t) (n + 1) words))
+    go true i = refl
+    go false i = i
 
--- the byte begins no spelling of a table
-abbrev pub begins_none : ℕ → Table → Bool
-begins_none b table = list_all (λ e. not (begins (λ c. nat_eq c b) e.0)) table
+by_place : (t : List ℕ) → word_terminal t ≡ beside (λ place. unwrap_or (slice_get keyword_terminals place) Name) Name (keyword_place t)
+unfolding keyword_table keyword_place terminals_from
+by_place t = lookup_by_place (λ place. unwrap_or (slice_get keyword_terminals place) Name) Name t 0 keywords
 
-pub none_beginning : (b : ℕ) (table : Table) → begins_none b table ≡ true → beginning b table ≡ []
-unfolding beginning
-none_beginning b [] h = refl
-none_beginning b (e ∷ es) h =
-    let p : (not (begins (λ c. nat_eq c b) e.0) ≡ true) × (begins_none b es ≡ true) = and_parts (not (begins (λ c. nat_eq c b) e.0)) (begins_none b es) h in
-    rw (not-true (begins (λ c. nat_eq c b) e.0) p.0) (none_beginning b es p.1)
+-- a word's terminal is the one at the place of its keyword
+pub word_at_place : (t : List ℕ) (place : ℕ) → keyword_place t ≡ Some place → unwrap_or (slice_get keyword_terminals place) Name ≡ word_terminal t
+unfolding beside
+word_at_place t place h = sym (by_place t ∙ rw h refl)
 
--- no bytes are a name
-pub no_word : (t : List ℕ) → length t < 1 → word_terminal t ≡ Name
-unfolding keyword_table
-no_word [] h = refl
-no_word (b ∷ bs) h = absurd (omega arith)
-
--- a word's keyword stands among those that begin as it does
-pub word_beginning : (t : List ℕ) → 1 ≤ length t → lookup (beginning (get_or t 0 0) keyword_table) Name t ≡ word_terminal t
-word_beginning [] h = absurd (omega arith)
-word_beginning (b ∷ bs) h = lookup_first keyword_table Name b bs
+pub word_without_place : (t : List ℕ) → keyword_place t ≡ None → word_terminal t ≡ Name
+unfolding beside
+word_without_place t h = by_place t ∙ rw h refl

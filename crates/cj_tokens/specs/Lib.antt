@@ -1,5 +1,4 @@
 pub mod Lexemes
-pub mod Beginnings
 pub mod Bytes
 pub mod Spellings
 pub mod Scan

@@ -1,8 +1,9 @@
 -- What a token is, told by its bytes.
 use Rattle.std.specs.Prelude.{ℕ, ℤ, pos, neg_ℤ, Bool, cond, ◌||◌, ◌&&◌, List, [], ◌∷◌, length, ◌+◌, ◌-◌, ◌*◌, take, drop, nat_le, ◌==◌, codes}
 use Rattle.std.specs.Char.{is_ascii_digit}
+use Rattle.std.specs.List.{zip}
 use Rattle.std.specs.Str.{bytes_eq}
-use Rattle.cj_ir.specs.Texts.{is_letter}
+use Rattle.cj_ir.specs.Texts.{is_letter, keywords}
 use Rattle.cj_tokens.specs.Bytes.{is_minus, is_quote, begins}
 use Rattle.cj_tokens.specs.Lexemes.{Lexeme}
 use Rattle.cj_tokens.specs.declared.terminal.Terminal.{Terminal}
@@ -13,10 +14,14 @@ abbrev pub lookup : List (List ℕ × Terminal) → Terminal → List ℕ → Te
 lookup [] other t = other
 lookup (e ∷ es) other t = cond (bytes_eq e.0 t) e.1 (lookup es other t)
 
+-- the terminals of the keywords, in the order of their list
+abbrev pub keyword_terminals : List Terminal
+keyword_terminals =
+    Fun ∷ Nop ∷ Op ∷ Cond ∷ Call ∷ Return ∷ Print ∷ Load ∷ Store ∷ Fail ∷ Neg ∷ Eqz ∷ Calls ∷ Guess ∷ Cold ∷ Then ∷ Else ∷ Warm ∷ Memory ∷ Limit ∷ Events ∷ Begin ∷ Step ∷ Compile ∷ Anchors ∷ Assume ∷ Delay ∷ Const ∷ Inline ∷ When ∷ Never ∷ Keep ∷ []
+
 -- the keywords
 unfoldable pub keyword_table : List (List ℕ × Terminal)
-keyword_table =
-    (codes "fun", Fun) ∷ (codes "nop", Nop) ∷ (codes "op", Op) ∷ (codes "cond", Cond) ∷ (codes "call", Call) ∷ (codes "return", Return) ∷ (codes "print", Print) ∷ (codes "load", Load) ∷ (codes "store", Store) ∷ (codes "fail", Fail) ∷ (codes "neg", Neg) ∷ (codes "eqz", Eqz) ∷ (codes "calls", Calls) ∷ (codes "guess", Guess) ∷ (codes "cold", Cold) ∷ (codes "then", Then) ∷ (codes "else", Else) ∷ (codes "warm", Warm) ∷ (codes "memory", Memory) ∷ (codes "limit", Limit) ∷ (codes "events", Events) ∷ (codes "begin", Begin) ∷ (codes "step", Step) ∷ (codes "compile", Compile) ∷ (codes "anchors", Anchors) ∷ (codes "assume", Assume) ∷ (codes "delay", Delay) ∷ (codes "const", Const) ∷ (codes "inline", Inline) ∷ (codes "when", When) ∷ (codes "never", Never) ∷ (codes "keep", Keep) ∷ []
+keyword_table = zip keywords keyword_terminals
 
 -- the marks
 unfoldable pub mark_table : List (List ℕ × Terminal)

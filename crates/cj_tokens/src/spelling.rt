@@ -1,14 +1,13 @@
 //! What a token is, told by its bytes.
 
-ghost use Rattle.std.specs.Prelude.{◌≡◌, [], ◌∷◌, length, ◌==◌, min, cond, Some, None, map, nat_le, neg_ℤ, pos};
-ghost use Rattle.cj_tokens.specs.Spellings.{begins_number, word_terminal, mark_terminal, terminal_of, lexeme_of, text_of, number_value, fits_i64, value, worth, lookup, keyword_table, mark_table};
-ghost use Rattle.cj_tokens.specs.Beginnings.{beginning};
+ghost use Rattle.std.specs.Prelude.{◌≡◌, [], ◌∷◌, length, ◌==◌, min, cond, Some, None, nat_le, neg_ℤ, pos, slice_get};
+ghost use Rattle.cj_tokens.specs.Spellings.{begins_number, word_terminal, mark_terminal, terminal_of, lexeme_of, text_of, number_value, fits_i64, value, worth, keyword_terminals, mark_table};
 ghost use Rattle.cj_tokens.specs.Seen.{seen};
 ghost use Rattle.cj_tokens.specs.declared.terminal.Terminal.TheVariants.{BadCharacter, Text};
 
 use crate::lexeme::Lexeme;
 use crate::terminal::Terminal;
-use cj_ir::texts::is_letter;
+use cj_ir::texts::{is_letter, keyword_place};
 
 /// The token of those bytes, which are one token or a byte that begins none; no bytes are the end.
 #[tactic(auto, unfolding(crate::specs::Spellings::lexeme_of))]
@@ -78,56 +77,60 @@ fn text(spelling: &[u8]) -> &[u8]
 }
 
 // A keyword's terminal; any other word is a name.
-#[tactic(auto, using(crate::proofs::Tables::lookup_first))]
+#[tactic(auto, using(crate::proofs::Tables::word_without_place))]
 fn word_terminal(word: &[u8]) -> Terminal
     ensures { result ≡ word_terminal word.now }
 {
-    match word {
-        [] => Terminal::Name,
-        [first, ..] => lookup(keywords_from(*first), Terminal::Name, word),
+    match keyword_place(word) {
+        Some(place) => terminal_at(keyword_terminals(), place).unwrap_or(Terminal::Name),
+        None => Terminal::Name,
     }
 }
 
-// The keywords that begin with the byte.
-fn keywords_from(first: u8) -> &'static [(&'static str, Terminal)]
-    ensures { map (λ e. (e.0.now, e.1)) result.now ≡ beginning first keyword_table }
+fn terminal_at(terminals: &[Terminal], place: usize) -> Option<Terminal>
+    ensures { result ≡ slice_get terminals.now place }
 {
-    match first {
-        b'a' => &[("anchors", Terminal::Anchors), ("assume", Terminal::Assume)],
-        b'b' => &[("begin", Terminal::Begin)],
-        b'c' => &[
-            ("cond", Terminal::Cond),
-            ("call", Terminal::Call),
-            ("calls", Terminal::Calls),
-            ("cold", Terminal::Cold),
-            ("compile", Terminal::Compile),
-            ("const", Terminal::Const),
-        ],
-        b'd' => &[("delay", Terminal::Delay)],
-        b'e' => &[
-            ("eqz", Terminal::Eqz),
-            ("else", Terminal::Else),
-            ("events", Terminal::Events),
-        ],
-        b'f' => &[("fun", Terminal::Fun), ("fail", Terminal::Fail)],
-        b'g' => &[("guess", Terminal::Guess)],
-        b'i' => &[("inline", Terminal::Inline)],
-        b'k' => &[("keep", Terminal::Keep)],
-        b'l' => &[("load", Terminal::Load), ("limit", Terminal::Limit)],
-        b'm' => &[("memory", Terminal::Memory)],
-        b'n' => &[
-            ("nop", Terminal::Nop),
-            ("neg", Terminal::Neg),
-            ("never", Terminal::Never),
-        ],
-        b'o' => &[("op", Terminal::Op)],
-        b'p' => &[("print", Terminal::Print)],
-        b'r' => &[("return", Terminal::Return)],
-        b's' => &[("store", Terminal::Store), ("step", Terminal::Step)],
-        b't' => &[("then", Terminal::Then)],
-        b'w' => &[("warm", Terminal::Warm), ("when", Terminal::When)],
-        _ => &[],
-    }
+    terminals.get(place).copied()
+}
+
+// The terminals of the keywords, by the places of these.
+fn keyword_terminals() -> &'static [Terminal]
+    ensures { result.now ≡ keyword_terminals }
+{
+    &[
+        Terminal::Fun,
+        Terminal::Nop,
+        Terminal::Op,
+        Terminal::Cond,
+        Terminal::Call,
+        Terminal::Return,
+        Terminal::Print,
+        Terminal::Load,
+        Terminal::Store,
+        Terminal::Fail,
+        Terminal::Neg,
+        Terminal::Eqz,
+        Terminal::Calls,
+        Terminal::Guess,
+        Terminal::Cold,
+        Terminal::Then,
+        Terminal::Else,
+        Terminal::Warm,
+        Terminal::Memory,
+        Terminal::Limit,
+        Terminal::Events,
+        Terminal::Begin,
+        Terminal::Step,
+        Terminal::Compile,
+        Terminal::Anchors,
+        Terminal::Assume,
+        Terminal::Delay,
+        Terminal::Const,
+        Terminal::Inline,
+        Terminal::When,
+        Terminal::Never,
+        Terminal::Keep,
+    ]
 }
 
 // A mark's terminal; any other byte begins no token.
@@ -165,17 +168,6 @@ fn one_byte_mark(byte: u8) -> Terminal
         b'%' => Terminal::Percent,
         b'<' => Terminal::Less,
         _ => Terminal::BadCharacter,
-    }
-}
-
-// The terminal beside the spelling in a table; where it is not in it, another.
-fn lookup(table: &[(&str, Terminal)], other: Terminal, spelling: &[u8]) -> Terminal
-    ensures { result ≡ lookup (map (λ e. (e.0.now, e.1)) table.now) other spelling.now }
-{
-    match table {
-        [] => other,
-        [(word, terminal), ..] if word.as_bytes() == spelling => *terminal,
-        [_, rest @ ..] => lookup(rest, other, spelling),
     }
 }
 

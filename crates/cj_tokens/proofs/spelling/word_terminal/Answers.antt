@@ -1,12 +1,9 @@
 use Rattle.std.proofs.Common.{◌∙◌, ap, sym}
-use Rattle.cj_tokens.specs.Spellings.{lookup}
+use Rattle.std.specs.Prelude.{unwrap_or, slice_get}
 use Rattle.cj_tokens.specs.declared.terminal.Terminal.TheVariants.{Name}
-use Rattle.cj_tokens.proofs.Tables.{no_word, word_beginning}
+use Rattle.cj_tokens.proofs.Tables.{word_at_place}
 use Rattle.cj_tokens.proofs.spelling.word_terminal.Goals as goal
 
-pub returns-in-empty : goal.returns-in-empty
-returns-in-empty c = sym (no_word c.args.word.now c.in-empty.len_below)
-
-pub returns-in-len1-up : goal.returns-in-len1-up
-returns-in-len1-up c =
-    c.lookup.ensures ∙ ap (λ table. lookup table Name c.args.word.now) c.keywords_from.ensures ∙ word_beginning c.args.word.now c.in-len1-up.len_at_least
+pub returns-in-Some : goal.returns-in-Some
+returns-in-Some c =
+    c.unwrap_or.ensures ∙ ap (λ o. unwrap_or o Name) (c.terminal_at.ensures ∙ ap (λ terminals. slice_get terminals c.in-Some.place) c.keyword_terminals.ensures) ∙ word_at_place c.args.word.now c.in-Some.place (sym c.keyword_place.ensures ∙ c.in-Some.is)
