@@ -1,7 +1,7 @@
 -- How the windows over a list of values change with it.
 use Rattle.std.proofs.Common.{◌≡◌, ◌∙◌, sym, ap, refl, subst, ℕ, ◌+◌, ◌-◌, ◌<◌, ◌≤◌, List, [], ◌∷◌, ◌++◌, length, take, drop, reverse, map, Some, None, arith, ℤ}
 use Rattle.std.specs.Prelude.{slice_get, slice_set}
-use Rattle.std.proofs.lemmas.List.{reverse-append, take-append-drop, take_rest, take_at, drop_at, take-set-le, drop-set-add, length-set, length-drop, length-take-le, length-append, drop_all, take_all}
+use Rattle.std.proofs.lemmas.List.{reverse-append, take-append-drop, take_rest, take_at, drop_at, take-set-le, drop-set-add, length-set, length-drop, length-take-le, length-append}
 use Rattle.cj_ir.specs.declared.language.Label.{Label}
 use Rattle.cj_ir.specs.declared.language.Reg.{Reg}
 use Rattle.cj_base.proofs.Lists.{none_last, reverse_last}
@@ -11,8 +11,10 @@ use Rattle.cj_base.specs.Machine.{waits}
 use Rattle.cj_activations.specs.declared.windows.Position.{Position}
 use Rattle.cj_activations.specs.declared.windows.Position.TheVariants.{Base, Version}
 use Rattle.cj_activations.specs.declared.windows.Window.{Window}
+use Rattle.cj_activations.specs.declared.windows.Body.{Body}
+use Rattle.cj_activations.specs.declared.windows.Body.TheVariants as body
 use Rattle.cj_activations.specs.Activations.{Active, InBase, InVersion, BaseWaits, Stacked}
-use Rattle.cj_activations.specs.Windows.{active_at, paused_by, paused_in, stacked_in, AreTiled, moved_to, waiting_window, Extends, Pushes, Writes}
+use Rattle.cj_activations.specs.Windows.{active_at, paused_by, paused_in, position_at, position_in, stacked_in, AreTiled, waiting_window, Extends, Pushes, Writes}
 use Rattle.cj_activations.specs.Changes.{active_regs, called, entered, paused_regs, position_of, waits_of, innermost, HasDest, waiting_registers, all_registers, with_label, with_regs, paused, resumed, returned, returned_to, rebuilt}
 
 -- Activations at a position.
@@ -27,10 +29,10 @@ unfolding active_regs active_at
 regs_are (Base f label) regs = refl
 regs_are (Version f offset label) regs = refl
 
-pub moved_is : (p : Position) (regs : List ℤ) (next : Label) → active_at (moved_to p next) regs ≡ with_label (active_at p regs) next
-unfolding active_at moved_to with_label
-moved_is (Base f label) regs next = refl
-moved_is (Version f offset label) regs next = refl
+pub moved_is : (b : Body) (label next : Label) (regs : List ℤ) → active_at (position_at b next) regs ≡ with_label (active_at (position_at b label) regs) next
+unfolding active_at position_at with_label
+moved_is (body.Base f) label next regs = refl
+moved_is (body.Version f offset) label next regs = refl
 
 pub with_regs_is : (p : Position) (regs other : List ℤ) → active_at p other ≡ with_regs (active_at p regs) other
 unfolding active_at with_regs
@@ -47,17 +49,22 @@ unfolding paused_regs paused active_regs waits
 waiting_regs_are (InBase frame) dest next = refl
 waiting_regs_are (InVersion frame) dest next = refl
 
-resumed_is : (w : Window) (p : Position) (regs : List ℤ) (dest : Reg) (next : Label) (v : ℤ)
-    → active_at (moved_to p next) (slice_set regs dest.0 v) ≡ resumed (paused_by w p regs) dest next v
-unfolding active_at moved_to paused_by resumed
-resumed_is w (Base f label) regs dest next v = refl
-resumed_is w (Version f offset label) regs dest next v = refl
+resumed_is : (w : Window) (b : Body) (label : Label) (regs : List ℤ) (dest : Reg) (next : Label) (v : ℤ)
+    → active_at (position_at b next) (slice_set regs dest.0 v) ≡ resumed (paused_by w (position_at b label) regs) dest next v
+unfolding active_at position_at paused_by resumed
+resumed_is w (body.Base f) label regs dest next v = refl
+resumed_is w (body.Version f offset) label regs dest next v = refl
 
-paused_is : (w : Window) (p : Position) (regs : List ℤ) (dest : Reg) (next : Label) → w.position ≡ p
-    → paused_by (waiting_window w p dest next) ((waiting_window w p dest next).position) regs ≡ paused (active_at p regs) dest next
-unfolding paused_by waiting_window paused active_at waits
-paused_is w (Base f label) regs dest next e = refl
-paused_is w (Version f offset label) regs dest next e = rw e refl
+paused_at : (w : Window) (b : Body) (label : Label) (regs : List ℤ) (dest : Reg) (next : Label) → w.body ≡ b → w.label ≡ label
+    → paused_by (waiting_window w (position_at b label) dest next) (position_in (waiting_window w (position_at b label) dest next)) regs
+    ≡ paused (active_at (position_at b label) regs) dest next
+unfolding position_at paused_by waiting_window paused active_at waits
+paused_at w (body.Base f) label regs dest next e g = rw e refl
+paused_at w (body.Version f offset) label regs dest next e g = rw (e, g) refl
+
+paused_is : (w : Window) (regs : List ℤ) (dest : Reg) (next : Label)
+    → paused_by (waiting_window w (position_in w) dest next) (position_in (waiting_window w (position_in w) dest next)) regs ≡ paused (active_at (position_in w) regs) dest next
+paused_is w regs dest next = paused_at w w.body w.label regs dest next refl refl
 
 start_stays : (w : Window) (p : Position) (dest : Reg) (next : Label) → (waiting_window w p dest next).start ≡ w.start
 unfolding waiting_window
@@ -70,26 +77,26 @@ waiting_are : (values : List ℤ) (ws : List Window) → AreTiled values ws → 
 unfolding waiting_registers paused_in
 waiting_are values [] t = sym t
 waiting_are values (w ∷ ws) t =
-    rw (waiting_are (take w.start values) ws t.1, paused_regs_are w w.position (drop w.start values)) (take-append-drop w.start values)
+    rw (waiting_are (take w.start values) ws t.1, paused_regs_are w (position_in w) (drop w.start values)) (take-append-drop w.start values)
 
 pub all_are : (values : List ℤ) (top : Window) (ws : List Window) → AreTiled values (top ∷ ws) → all_registers (stacked_in values top ws) ≡ values
 unfolding all_registers stacked_in
 all_are values top ws t =
-    rw (waiting_are (take top.start values) ws t.1, regs_are top.position (drop top.start values)) (take-append-drop top.start values)
+    rw (waiting_are (take top.start values) ws t.1, regs_are (position_in top) (drop top.start values)) (take-append-drop top.start values)
 
 -- The same of a value that the windows give.
 
 pub position_seen : (values : List ℤ) (top : Window) (ws : List Window) (s : Stacked) → stacked_in values top ws ≡ s
-    → top.position ≡ position_of s.top
+    → (position_in top) ≡ position_of s.top
 unfolding stacked_in
 position_seen values top ws s is =
-    sym (position_is top.position (drop top.start values)) ∙ ap (λ (x : Stacked). position_of x.top) is
+    sym (position_is (position_in top) (drop top.start values)) ∙ ap (λ (x : Stacked). position_of x.top) is
 
 pub regs_seen : (values : List ℤ) (top : Window) (ws : List Window) (s : Stacked) → stacked_in values top ws ≡ s
     → drop top.start values ≡ active_regs s.top
 unfolding stacked_in
 regs_seen values top ws s is =
-    sym (regs_are top.position (drop top.start values)) ∙ ap (λ (x : Stacked). active_regs x.top) is
+    sym (regs_are (position_in top) (drop top.start values)) ∙ ap (λ (x : Stacked). active_regs x.top) is
 
 pub regs_cut : (all values : List ℤ) (top : Window) (ws : List Window) (s : Stacked) → all ≡ values → stacked_in values top ws ≡ s
     → take (length all - top.start) (drop top.start all) ≡ active_regs s.top
@@ -114,17 +121,17 @@ none_waits values top waiting s none is =
 
 pub some_waits : (values : List ℤ) (top w : Window) (waiting : List Window) (s : Stacked) → slice_get waiting (length waiting - 1) ≡ Some w
     → stacked_in values top (reverse waiting) ≡ s
-    → (regs : List ℤ) × (innermost s.waiting ≡ Some (waits_of (paused_by w w.position regs)))
+    → (regs : List ℤ) × (innermost s.waiting ≡ Some (waits_of (paused_by w (position_in w) regs)))
 unfolding stacked_in paused_in innermost
 some_waits values top w waiting s some is =
     let cut = rw (reverse_last waiting w some) at is in
     (drop w.start (take top.start values), sym (ap (λ (x : Stacked). innermost x.waiting) cut))
 
 pub moved_seen : (values : List ℤ) (top : Window) (ws : List Window) (s : Stacked) (next : Label) → stacked_in values top ws ≡ s
-    → stacked_in values (record top { position = moved_to top.position next }) ws ≡ record s { top = with_label s.top next }
+    → stacked_in values (record top { label = next }) ws ≡ record s { top = with_label s.top next }
 unfolding stacked_in
 moved_seen values top ws s next is =
-    rw (moved_is top.position (drop top.start values) next) (ap (λ (x : Stacked). record x { top = with_label x.top next }) is)
+    rw (moved_is top.body top.label next (drop top.start values)) (ap (λ (x : Stacked). record x { top = with_label x.top next }) is)
 
 -- A register of the top is set.
 
@@ -140,8 +147,8 @@ unfolding stacked_in
 set_seen values top ws s d v is =
     let same = take-set-le top.start values (top.start + d) v (omega arith) in
     let set = drop-set-add top.start values d v in
-    let regs = sym (regs_are top.position (drop top.start values)) in
-    rw (same, set, with_regs_is top.position (drop top.start values) (slice_set (drop top.start values) d v))
+    let regs = sym (regs_are (position_in top) (drop top.start values)) in
+    rw (same, set, with_regs_is (position_in top) (drop top.start values) (slice_set (drop top.start values) d v))
     (ap (λ (x : Stacked). record x { top = with_regs x.top (slice_set (drop top.start values) d v) }) is
     ∙ ap (λ regs. record s { top = with_regs s.top (slice_set regs d v) }) (regs_seen values top ws s is))
 
@@ -150,11 +157,11 @@ set_seen values top ws s d v is =
 reverse_push : {A : Type 0} (xs : List A) (x : A) → reverse (xs ++ x ∷ []) ≡ x ∷ reverse xs
 reverse_push xs x = reverse-append xs (x ∷ [])
 
-window_start : (top : Window) (dest : Reg) (next : Label) → (waiting_window top top.position dest next).start ≡ top.start
-window_start top dest next = start_stays top top.position dest next
+window_start : (top : Window) (dest : Reg) (next : Label) → (waiting_window top (position_in top) dest next).start ≡ top.start
+window_start top dest next = start_stays top (position_in top) dest next
 
 pub called_tiled : (values values' entry : List ℤ) (top new w : Window) (waiting waiting' : List Window) (dest : Reg) (next : Label)
-    → values' ≡ values ++ entry → waiting' ≡ waiting ++ w ∷ [] → w ≡ waiting_window top top.position dest next
+    → values' ≡ values ++ entry → waiting' ≡ waiting ++ w ∷ [] → w ≡ waiting_window top (position_in top) dest next
     → new.start ≡ length values → AreTiled values (top ∷ reverse waiting) → AreTiled values' (new ∷ reverse waiting')
 called_tiled values values' entry top new w waiting waiting' dest next e f g start t =
     let cut = take_at values entry new.start (sym start) in
@@ -162,17 +169,17 @@ called_tiled values values' entry top new w waiting waiting' dest next e f g sta
     let within : new.start ≤ length (values ++ entry) = omega (arith, length-append values entry) in
     rw (e, f) (within, rw (reverse_push waiting w, cut, same) t)
 
-pub called_seen : (values values' entry : List ℤ) (top new w : Window) (waiting waiting' : List Window) (s : Stacked) (dest : Reg) (next : Label)
-    → values' ≡ values ++ entry → waiting' ≡ waiting ++ w ∷ [] → w ≡ waiting_window top top.position dest next
+pub called_seen : (values values' entry : List ℤ) (top new w : Window) (p : Position) (waiting waiting' : List Window) (s : Stacked) (dest : Reg) (next : Label)
+    → position_in new ≡ p → values' ≡ values ++ entry → waiting' ≡ waiting ++ w ∷ [] → w ≡ waiting_window top (position_in top) dest next
     → new.start ≡ length values → stacked_in values top (reverse waiting) ≡ s
-    → stacked_in values' new (reverse waiting') ≡ record { top = active_at new.position entry; waiting = paused s.top dest next ∷ s.waiting }
+    → stacked_in values' new (reverse waiting') ≡ record { top = active_at p entry; waiting = paused s.top dest next ∷ s.waiting }
 unfolding stacked_in paused_in
-called_seen values values' entry top new w waiting waiting' s dest next e f g start is =
+called_seen values values' entry top new w p waiting waiting' s dest next at e f g start is =
     let same = window_start top dest next in
-    let v = waiting_window top top.position dest next in
+    let v = waiting_window top (position_in top) dest next in
     rw
-    (e, f, g, reverse_push waiting v, take_at values entry new.start (sym start), drop_at values entry new.start (sym start), paused_is top top.position (drop v.start values) dest next refl, same)
-    (ap (λ (x : Stacked). record { top = active_at new.position entry; waiting = paused x.top dest next ∷ x.waiting }) is)
+    (at, e, f, g, reverse_push waiting v, take_at values entry new.start (sym start), drop_at values entry new.start (sym start), paused_is top (drop v.start values) dest next, same)
+    (ap (λ (x : Stacked). record { top = active_at p entry; waiting = paused x.top dest next ∷ x.waiting }) is)
 
 -- A return.
 
@@ -190,19 +197,19 @@ returned_within values top w waiting left s dest e is has =
     let cut = rw (e, reverse_push left w) at is in
     let has' = subst (λ (x : Stacked). HasDest dest x.waiting) (sym cut) has in
     let below : dest.0 < length (drop w.start (take top.start values)) =
-    rw (paused_regs_are w w.position (drop w.start (take top.start values))) at has' in
+    rw (paused_regs_are w (position_in w) (drop w.start (take top.start values))) at has' in
     omega (arith, length-drop w.start (take top.start values))
 
 pub returned_seen : (values values' : List ℤ) (top w new : Window) (waiting left : List Window) (s : Stacked) (dest : Reg) (next : Label) (v : ℤ)
-    → waiting ≡ left ++ w ∷ [] → new.position ≡ moved_to w.position next → new.start ≡ w.start
+    → waiting ≡ left ++ w ∷ [] → new.body ≡ w.body → new.label ≡ next → new.start ≡ w.start
     → values' ≡ slice_set (take top.start values) (w.start + dest.0) v
     → stacked_in values top (reverse waiting) ≡ s → stacked_in values' new (reverse left) ≡ returned s dest next v
 unfolding stacked_in paused_in returned returned_to
-returned_seen values values' top w new waiting left s dest next v e position start f is =
+returned_seen values values' top w new waiting left s dest next v e same label start f is =
     let cut = rw (e, reverse_push left w) at is in
     let below = take top.start values in
     rw
-    (f, position, start, take-set-le w.start below (w.start + dest.0) v (omega arith), drop-set-add w.start below dest.0 v, resumed_is w w.position (drop w.start below) dest next v)
+    (f, same, label, start, take-set-le w.start below (w.start + dest.0) v (omega arith), drop-set-add w.start below dest.0 v, resumed_is w w.body w.label (drop w.start below) dest next v)
     (ap (λ (x : Stacked). returned x dest next v) cut)
 
 pub none_to_take : (values : List ℤ) (top : Window) (s : Stacked) (dest : Reg) → stacked_in values top (reverse []) ≡ s → HasDest dest s.waiting → ⊥
@@ -213,9 +220,9 @@ none_to_take values top s dest is has = subst (λ (x : Stacked). HasDest dest x.
 
 pub pushes_one : (frame : Waiting) (windows windows' : List Window) (values values' : List ℤ) (start : ℕ)
     → values' ≡ values ++ frame.regs
-    → windows' ≡ windows ++ record { position = Base frame.function frame.label; dest = frame.dest; start = start } ∷ []
+    → windows' ≡ windows ++ record { body = body.Base frame.function; label = frame.label; dest = frame.dest; start = start } ∷ []
     → start ≡ length values → Pushes (frame ∷ []) windows windows' values values'
-unfolding paused_in paused_by
+unfolding paused_in paused_by position_at
 pushes_one frame windows windows' values values' start e f g =
     let cut = take_at values frame.regs start (sym g) in
     let kept = drop_at values frame.regs start (sym g) in
@@ -227,7 +234,7 @@ pushes_one frame windows windows' values values' start e f g =
 
 pub writes_all : (top : Frame) (waiting : List Waiting) (w : Window) (windows windows' : List Window) (values values' values'' : List ℤ)
     → Pushes waiting windows windows' values values' → values'' ≡ values' ++ top.regs
-    → w.position ≡ Base top.function top.label → w.start ≡ length values' → Writes top waiting w windows windows' values values''
+    → (position_in w) ≡ Base top.function top.label → w.start ≡ length values' → Writes top waiting w windows windows' values values''
 unfolding stacked_in active_at
 writes_all top waiting w windows windows' values values' values'' p e position start =
     let cut = take_at values' top.regs w.start (sym start) in
@@ -257,10 +264,10 @@ put_back values written start within p =
 
 -- The first activation.
 
-pub entered_seen : (values entry : List ℤ) (top : Window) → values ≡ entry → top.start ≡ 0
-    → stacked_in values top (reverse []) ≡ record { top = active_at top.position entry; waiting = [] }
+pub entered_seen : (values entry : List ℤ) (top : Window) (p : Position) → values ≡ entry → position_in top ≡ p → top.start ≡ 0
+    → stacked_in values top (reverse []) ≡ record { top = active_at p entry; waiting = [] }
 unfolding stacked_in paused_in
-entered_seen values entry top e start = rw (e, start) refl
+entered_seen values entry top p e at start = rw (e, at, start) refl
 
 pub called_has_dest : (s new : Stacked) (dest d : Reg) (next : Label) (position : Position) (count : ℕ) (args : List ℤ)
     → new ≡ called s dest next position count args → d.0 < length (active_regs s.top) → HasDest d new.waiting

@@ -7,7 +7,17 @@ use Rattle.cj_base.specs.declared.machine.Waiting.{Waiting}
 use Rattle.cj_activations.specs.declared.windows.Position.{Position}
 use Rattle.cj_activations.specs.declared.windows.Position.TheVariants.{Base, Version}
 use Rattle.cj_activations.specs.declared.windows.Window.{Window}
+use Rattle.cj_activations.specs.declared.windows.Body.{Body}
+use Rattle.cj_activations.specs.declared.windows.Body.TheVariants as body
 use Rattle.cj_activations.specs.Activations.{Active, InBase, InVersion, Paused, BaseWaits, VersionWaits, Stacked}
+
+-- where a body stands at a label
+unfoldable pub position_at : Body → Label → Position
+position_at (body.Base f) label = Base f label
+position_at (body.Version f offset) label = Version f offset label
+
+abbrev pub position_in : Window → Position
+position_in w = position_at w.body w.label
 
 -- an activation that runs at a position, over these registers
 unfoldable pub active_at : Position → List ℤ → Active
@@ -27,12 +37,12 @@ paused_by w (Version f offset label) regs =
 unfoldable pub paused_in : List ℤ → List Window → List Paused
 paused_in values [] = []
 paused_in values (w ∷ ws) =
-    paused_by w w.position (drop w.start values) ∷ paused_in (take w.start values) ws
+    paused_by w (position_in w) (drop w.start values) ∷ paused_in (take w.start values) ws
 
 -- the activations of windows of which the first runs
 unfoldable pub stacked_in : List ℤ → Window → List Window → Stacked
 stacked_in values top waiting = record {
-  top = active_at top.position (drop top.start values);
+  top = active_at (position_in top) (drop top.start values);
   waiting = paused_in (take top.start values) waiting;
 }
 
@@ -41,15 +51,11 @@ abbrev pub AreTiled : List ℤ → List Window → Type 0
 AreTiled values [] = values ≡ []
 AreTiled values (w ∷ ws) = (w.start ≤ length values) × AreTiled (take w.start values) ws
 
--- Positions and windows, changed.
-
-unfoldable pub moved_to : Position → Label → Position
-moved_to (Base f label) next = Base f next
-moved_to (Version f offset label) next = Version f offset next
+-- Windows, changed.
 
 -- the window of an activation that waits for a call's value
 unfoldable pub waiting_window : Window → Position → Reg → Label → Window
-waiting_window w (Base f label) dest next = record w { position = Base f next; dest = dest }
+waiting_window w (Base f label) dest next = record w { label = next; dest = dest }
 waiting_window w (Version f offset label) dest next = w
 
 -- a list is another with items behind it

@@ -49,11 +49,7 @@ impl Activations {
         let mut values = Vec::new(alloc);
         push_entry(&mut values, args, count)?;
         Ok(Activations {
-            top: Window {
-                position,
-                dest: Reg(0),
-                start: 0,
-            },
+            top: Window::at(position, Reg(0), 0),
             waiting: Vec::new(alloc),
             values,
         })
@@ -64,7 +60,7 @@ impl Activations {
     pub fn position(&self) -> Position
         ensures { result ≡ position_of self.now.top }
     {
-        self.top.position
+        self.top.position()
     }
 
     /// The registers of the top.
@@ -99,7 +95,7 @@ impl Activations {
     pub fn go_to(&mut self, next: Label)
         ensures { self.new ≡ record self.old { top = with_label self.old.top next } }
     {
-        self.top.position = self.top.position.at(next);
+        self.top.label = next;
     }
 
     /// Sets a register of the top. It has to be one of them.
@@ -135,11 +131,7 @@ impl Activations {
             self.values.truncate(start);
             return Err(NoMemory);
         }
-        self.top = Window {
-            position,
-            dest: Reg(0),
-            start,
-        };
+        self.top = Window::at(position, Reg(0), start);
         Ok(())
     }
 
@@ -154,9 +146,9 @@ impl Activations {
             self.values.truncate(self.top.start);
             set_value(&mut self.values, window.start + dest.0 as usize, value);
             self.top = Window {
-                position: window.position.at(next),
+                label: next,
                 dest,
-                start: window.start,
+                ..window
             };
         }
     }

@@ -3,7 +3,7 @@
 ghost use Rattle.std.specs.Prelude.{◌≡◌, ◌<◌, ◌≤◌, vec_capacity, [], ◌∷◌, ◌++◌, length, slice_set, ℤ, List, IfOk, OnErr, OnOk};
 ghost use Rattle.cj_base.specs.Machine.{entry_regs};
 ghost use Rattle.cj_activations.specs.Changes.{waits_of};
-ghost use Rattle.cj_activations.specs.Windows.{paused_by, moved_to, waiting_window, Extends, Pushes, Writes};
+ghost use Rattle.cj_activations.specs.Windows.{paused_by, position_at, position_in, waiting_window, Extends, Pushes, Writes};
 
 use cj_base::{Frame, Waiting, Waitings};
 use cj_ir::{FunId, Label, NoMemory, Reg};
@@ -38,69 +38,87 @@ pub enum Waits {
     },
 }
 
-/// An activation whose registers stand in a list of values from `start` on, up to the start of the next window. `dest`
-/// is the register that the value of a base frame's call goes into, while the frame waits.
+/// What an activation runs: the base body of a function, or its version at an offset.
+#[derive(Clone, Copy, Debug, PartialEq, Eq)]
+pub enum Body {
+    Base { function: FunId },
+    Version { function: FunId, offset: u64 },
+}
+
+/// An activation at a label of its body, whose registers stand in a list of values from `start` on, up to the start of the
+/// next window. `dest` is the register that the value of a base frame's call goes into, while the frame waits.
 #[derive(Clone, Copy, Debug, PartialEq, Eq)]
 pub struct Window {
-    pub position: Position,
+    pub body: Body,
+    pub label: Label,
     pub dest: Reg,
     pub start: usize,
 }
 
-#[tactic(auto, unfolding(crate::specs::Windows::moved_to))]
-impl Position {
-    // The same, at another label.
-    pub(crate) fn at(self, next: Label) -> Position
-        ensures { result ≡ moved_to self next }
+#[tactic(auto, unfolding(crate::specs::Windows::position_at, crate::specs::Windows::waiting_window, crate::specs::Windows::paused_by, crate::specs::Changes::waits_of))]
+impl Window {
+    // A window at that position.
+    pub(crate) fn at(position: Position, dest: Reg, start: usize) -> Window
+        ensures position { position_in result ≡ position }
+        ensures dest { result.dest ≡ dest }
+        ensures start { result.start ≡ start }
     {
-        match self {
-            Position::Base { function, .. } => Position::Base {
-                function,
-                label: next,
-            },
+        let (body, label) = match position {
+            Position::Base { function, label } => (Body::Base { function }, label),
             Position::Version {
                 function,
                 offset,
-                ..
-            } => Position::Version {
+                label,
+            } => (Body::Version { function, offset }, label),
+        };
+        Window {
+            body,
+            label,
+            dest,
+            start,
+        }
+    }
+
+    // Where the activation stands.
+    pub(crate) fn position(self) -> Position
+        ensures { result ≡ position_in self }
+    {
+        let label = self.label;
+        match self.body {
+            Body::Base { function } => Position::Base { function, label },
+            Body::Version { function, offset } => Position::Version {
                 function,
                 offset,
-                label: next,
+                label,
             },
         }
     }
-}
 
-#[tactic(auto, unfolding(crate::specs::Windows::waiting_window, crate::specs::Windows::moved_to, crate::specs::Windows::paused_by, crate::specs::Changes::waits_of))]
-impl Window {
     // The window of the activation while it waits for a call's value.
     pub(crate) fn paused(self, dest: Reg, next: Label) -> Window
-        ensures { result ≡ waiting_window self self.position dest next }
+        ensures { result ≡ waiting_window self (position_in self) dest next }
     {
-        match self.position {
-            Position::Base { .. } => Window {
-                position: self.position.at(next),
+        match self.body {
+            Body::Base { .. } => Window {
+                label: next,
                 dest,
-                start: self.start,
+                ..self
             },
-            Position::Version { .. } => self,
+            Body::Version { .. } => self,
         }
     }
 
     // How the window's activation waits.
     pub(crate) fn waits(self) -> Waits
-        ensures { (regs : List ℤ) → result ≡ waits_of (paused_by self self.position regs) }
+        ensures { (regs : List ℤ) → result ≡ waits_of (paused_by self (position_in self) regs) }
     {
-        match self.position {
-            Position::Base { label, .. } => Waits::Base {
+        let label = self.label;
+        match self.body {
+            Body::Base { .. } => Waits::Base {
                 label,
                 dest: self.dest,
             },
-            Position::Version {
-                function,
-                offset,
-                label,
-            } => Waits::Version {
+            Body::Version { function, offset } => Waits::Version {
                 function,
                 offset,
                 label,
@@ -148,10 +166,10 @@ fn push_waiting(
     let start = values.len();
     values.extend_from_slice(frame.regs.items())?;
     windows.push(Window {
-        position: Position::Base {
+        body: Body::Base {
             function: frame.function,
-            label: frame.label,
         },
+        label: frame.label,
         dest: frame.dest,
         start,
     })?;
@@ -179,10 +197,10 @@ pub(crate) fn write_frames(
     let start = values.len();
     values.extend_from_slice(top.regs.items())?;
     Ok(Window {
-        position: Position::Base {
+        body: Body::Base {
             function: top.function,
-            label: top.label,
         },
+        label: top.label,
         dest: Reg(0),
         start,
     })

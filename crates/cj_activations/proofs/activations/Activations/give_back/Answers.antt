@@ -11,7 +11,7 @@ pub returns-in-Some : goal.returns-in-Some
 returns-in-Some c =
     let value : to_z w64 (of_z w64 c.args.value) ≡ c.args.value = search (rules, c.ranges.value.sfits) in
     let set = rw (value, c.truncate.ensures.items) at c.set_value.ensures in
-    returned_seen _ _ _ _ _ _ _ _ _ _ _ c.in-Some.ensures.items c.at.ensures refl set c.self.view_is
+    returned_seen _ _ _ _ _ _ _ _ _ _ _ c.in-Some.ensures.items refl refl refl set c.self.view_is
 
 pub returns-in_default : goal.returns-in_default
 returns-in_default c =
