@@ -11,12 +11,13 @@ use Rattle.cj_script.specs.Fitting.{FitsCall}
 use Rattle.cj_events.specs.declared.events.Event.{Event}
 use Rattle.cj_events.specs.declared.events.Event.TheVariants.{Begin, Step, Compile}
 use Rattle.cj_events.specs.Tallies.{runs, limits, counts, compiles}
+use Rattle.cj_events.specs.declared.limits.TheConstants.{MAX_EVENTS, MAX_LISTED, MAX_PASSES}
 
 abbrev pub FitsLabel : Label → Type 0
 FitsLabel label = label.0 ≤ 511
 
 abbrev pub FitsLabels : List Label → Type 0
-FitsLabels labels = (1 ≤ length labels) × (length labels ≤ 64) × All FitsLabel labels
+FitsLabels labels = (1 ≤ length labels) × (length labels ≤ MAX_LISTED) × All FitsLabel labels
 
 abbrev pub FitsGuard : Guard → Type 0
 FitsGuard (Is reg value) = reg.0 ≤ 127
@@ -37,7 +38,7 @@ abbrev pub FitsEvent : List Function → ℕ → Event → Type 0
 FitsEvent functions begun (Begin call) = FitsCall functions call
 FitsEvent functions begun (Step run count) = (1 ≤ run) × (run ≤ begun) × (1 ≤ count) × (count ≤ 1000000)
 FitsEvent functions begun (Compile function passes) =
-    (function.0 < length functions) × (length passes ≤ 256) × All FitsPass passes
+    (function.0 < length functions) × (length passes ≤ MAX_PASSES) × All FitsPass passes
 
 -- each event, behind the earlier ones
 abbrev pub EachFits : List Function → List Event → List Event → Type 0
@@ -47,7 +48,7 @@ EachFits functions earlier (event ∷ events) =
 
 pub record FitsEvents (p : Program) (events : List Event) : Type 0 where
   pub each : EachFits p.functions [] events
-  pub few_runs : runs events ≤ 256
+  pub few_runs : runs events ≤ MAX_EVENTS
   pub few_turns : limits events ≤ 4000000
   pub few_steps : counts events ≤ 4000000
-  pub few_compiles : compiles events ≤ 256
+  pub few_compiles : compiles events ≤ MAX_EVENTS

@@ -22,6 +22,7 @@ use Rattle.cj_events.specs.declared.events.Event.{Event}
 use Rattle.cj_events.specs.declared.events.Event.TheVariants.{Begin, Step, Compile}
 use Rattle.cj_events.specs.Rules.{labels, equation, guard, more_guards, guards, anchors_pass, assume_pass, delay_pass, const_pass, inline_pass, any_pass, passes, begin_event, step_event, compile_event, event, events, history}
 use Rattle.cj_events.specs.Tallies.{runs, limits, counts, compiles}
+use Rattle.cj_events.specs.declared.limits.TheConstants.{MAX_EVENTS, MAX_LISTED, MAX_PASSES}
 
 -- ---- labels of drafts
 
@@ -31,9 +32,9 @@ label_of t = record { 0 = unsigned_abs t.number }
 abbrev pub label_offences : Lexeme → List Refused
 label_offences t = out_of_range (pos 0) (pos 511) t
 
--- a label of a list, behind so many others: at most 64
+-- a label of a list, behind so many others
 abbrev pub listed_offences : ℕ → Lexeme → List Refused
-listed_offences earlier t = highest (offends_if (nat_le 64 earlier) t TooMany ++ label_offences t)
+listed_offences earlier t = highest (offends_if (nat_le MAX_LISTED earlier) t TooMany ++ label_offences t)
 
 unfoldable pub labels_offences : Tree labels → List Refused
 unfolding labels numbers
@@ -82,9 +83,9 @@ guards_of (when, (first, more)) = guard_of first ∷ map (λ next. guard_of next
 
 -- ---- passes
 
--- the first word of a pass behind so many others: at most 256
+-- the first word of a pass behind so many others
 abbrev pub pass_word_offences : ℕ → Lexeme → List Refused
-pass_word_offences earlier word = offends_if (nat_le 256 earlier) word TooMany
+pass_word_offences earlier word = offends_if (nat_le MAX_PASSES earlier) word TooMany
 
 unfoldable pub anchors_offences : ℕ → Tree anchors_pass → List Refused
 unfolding anchors_pass
@@ -155,9 +156,9 @@ passes_of items = map pass_of items
 
 -- ---- events
 
--- the first word of one of the events of which there are at most 256, behind so many of its kind
+-- the first word of one of the events that are counted, behind so many of its kind
 abbrev pub event_word_offences : ℕ → Lexeme → List Refused
-event_word_offences earlier word = offends_if (nat_le 256 earlier) word TooMany
+event_word_offences earlier word = offends_if (nat_le MAX_EVENTS earlier) word TooMany
 
 -- the number of a run that has begun
 abbrev pub run_offences : ℕ → Lexeme → List Refused

@@ -20,6 +20,7 @@ use Rattle.cj_events.specs.declared.events.Event.TheVariants.{Begin, Step, Compi
 use Rattle.cj_events.specs.declared.tally.Tally.{Tally}
 use Rattle.cj_events.specs.Meaning.{label_of, label_offences, listed_offences, register_of, ninth_offences, register_offences, run_offences, count_offences}
 use Rattle.cj_events.specs.Tallies.{tally_of}
+use Rattle.cj_events.specs.declared.limits.TheConstants.{MAX_EVENTS, MAX_PASSES}
 
 -- ---- labels
 
@@ -103,7 +104,7 @@ any_pass_at ts =
     (cond (is_terminal terminal.Const (front ts)) (Ok (pass.Const, behind ts)) (inline_at (behind ts)))))
 
 unfoldable pub pass_at : ℕ → List Lexeme → Read Pass
-pass_at earlier ts = cond (nat_le 256 earlier) (Err (offence (front ts) TooMany)) (any_pass_at ts)
+pass_at earlier ts = cond (nat_le MAX_PASSES earlier) (Err (offence (front ts) TooMany)) (any_pass_at ts)
 
 abbrev pub next_pass : List Pass → List Lexeme → Read Pass
 next_pass earlier ts = pass_at (length earlier) ts
@@ -122,7 +123,7 @@ is_event ts =
 unfoldable pub begin_at : List Function → Tally → List Lexeme → Read Event
 begin_at functions tally ts =
     cond
-    (nat_le 256 tally.runs)
+    (nat_le MAX_EVENTS tally.runs)
     (Err (offence (front ts) TooMany))
     (begun_at functions tally.limits (behind ts) >>= λ call. Ok (Begin call.0, call.1))
 
@@ -144,7 +145,7 @@ compiled_at functions ts =
 
 unfoldable pub compile_at : List Function → Tally → List Lexeme → Read Event
 compile_at functions tally ts =
-    cond (nat_le 256 tally.compiles) (Err (offence (front ts) TooMany)) (compiled_at functions (behind ts))
+    cond (nat_le MAX_EVENTS tally.compiles) (Err (offence (front ts) TooMany)) (compiled_at functions (behind ts))
 
 unfoldable pub event_at : List Function → Tally → List Lexeme → Read Event
 event_at functions tally ts =

@@ -4,6 +4,7 @@ use Rattle.std.specs.List.{sum_by}
 use Rattle.cj_events.specs.declared.events.Event.{Event}
 use Rattle.cj_events.specs.declared.events.Event.TheVariants.{Begin, Step, Compile}
 use Rattle.cj_events.specs.declared.tally.Tally.{Tally}
+use Rattle.cj_events.specs.declared.limits.TheConstants.{MAX_EVENTS}
 
 abbrev pub begun_by : Event → ℕ
 begun_by (Begin call) = 1
@@ -47,7 +48,7 @@ tally_of events =
 
 -- the limits of a replay
 pub record IsWithin (tally : Tally) : Type 0 where
-  pub few_runs : tally.runs ≤ 256
+  pub few_runs : tally.runs ≤ MAX_EVENTS
   pub few_turns : tally.limits ≤ 4000000
   pub few_steps : tally.counts ≤ 4000000
-  pub few_compiles : tally.compiles ≤ 256
+  pub few_compiles : tally.compiles ≤ MAX_EVENTS

@@ -8,6 +8,7 @@ ghost use Rattle.cj_script.specs.Reading.{judged};
 ghost use Rattle.cj_ir.specs.declared.language.Guard.TheVariants.{Never};
 ghost use Rattle.cj_events.specs.Meaning.{label_of, label_offences, listed_offences, register_of, ninth_offences, register_offences, run_offences, count_offences};
 
+use crate::limits::MAX_LISTED;
 use cj_grammar::refused;
 use cj_ir::{Guard, Label, Reg};
 use cj_script::number_within;
@@ -25,7 +26,7 @@ pub fn draft_label(token: Lexeme<'_>) -> Result<Label, ParseError>
 pub fn listed_label(earlier: usize, token: Lexeme<'_>) -> Result<Label, ParseError>
     ensures { Found result (judged (listed_offences earlier (seen token.entry)) (label_of (seen token.entry))) }
 {
-    if earlier >= 64 {
+    if earlier >= MAX_LISTED {
         return Err(refused(token, Kind::TooMany));
     }
     draft_label(token)

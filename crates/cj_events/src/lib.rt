@@ -6,6 +6,7 @@ mod events;
 mod guards;
 mod judge;
 mod labels;
+pub mod limits;
 mod pass_grammar;
 mod passes;
 mod readers;

@@ -8,6 +8,7 @@ ghost use Rattle.cj_events.specs.Reading.{is_pass, anchors_at, assume_at, delay_
 use crate::guards::read_guards;
 use crate::judge::draft_label;
 use crate::labels::read_labels;
+use crate::limits::MAX_PASSES;
 use cj_draft::{Pass, Passes};
 use cj_grammar::refused;
 use cj_tokens::{Kind, ParseError, Terminal, Tokens};
@@ -73,7 +74,7 @@ fn read_any(alloc: Global, tokens: &mut Tokens<'_>) -> Result<Pass, ParseError>
 fn read_pass(alloc: Global, tokens: &mut Tokens<'_>, earlier: usize) -> Result<Pass, ParseError>
     ensures { Gives result (left tokens.new) (pass_at earlier (left tokens.old)) }
 {
-    if earlier >= 256 {
+    if earlier >= MAX_PASSES {
         return Err(refused(tokens.take(), Kind::TooMany));
     }
     read_any(alloc, tokens)

@@ -9,10 +9,12 @@ ghost use Rattle.cj_events.specs.OneEvent.{counted};
 
 use crate::events::{Event, Events};
 use crate::judge::{run_number, step_count};
+use crate::limits::MAX_EVENTS;
 use crate::passes::read_passes;
 use crate::tally::{Tally, counted, nothing};
 use cj_grammar::refused;
 use cj_ir::Function;
+use cj_ir::limits::MAX_FUNCTIONS;
 use cj_script::{function_id, read_begun};
 use cj_tokens::{Kind, ParseError, Terminal, Tokens};
 use std::alloc::Global;
@@ -25,13 +27,13 @@ fn read_begin(
     functions: &[Function],
     tally: Tally,
 ) -> Result<Event, ParseError>
-    requires few { length functions.now ≤ 64 }
+    requires few { length functions.now ≤ MAX_FUNCTIONS }
     requires within { IsWithin tally }
     ensures gives { Gives result (left tokens.new) (begin_at functions.now tally (left tokens.old)) }
     ensures within { IfOk result (λ event. IsWithin (counted tally event)) }
 {
     let word = tokens.take();
-    if tally.runs >= 256 {
+    if tally.runs >= MAX_EVENTS {
         return Err(refused(word, Kind::TooMany));
     }
     let call = read_begun(alloc, tokens, functions, tally.limits)?;
@@ -61,13 +63,13 @@ fn read_compile(
     functions: &[Function],
     tally: Tally,
 ) -> Result<Event, ParseError>
-    requires few { length functions.now ≤ 64 }
+    requires few { length functions.now ≤ MAX_FUNCTIONS }
     requires within { IsWithin tally }
     ensures gives { Gives result (left tokens.new) (compile_at functions.now tally (left tokens.old)) }
     ensures within { IfOk result (λ event. IsWithin (counted tally event)) }
 {
     let word = tokens.take();
-    if tally.compiles >= 256 {
+    if tally.compiles >= MAX_EVENTS {
         return Err(refused(word, Kind::TooMany));
     }
     let name = tokens.take();
@@ -86,7 +88,7 @@ fn read_event(
     functions: &[Function],
     tally: Tally,
 ) -> Result<Event, ParseError>
-    requires few { length functions.now ≤ 64 }
+    requires few { length functions.now ≤ MAX_FUNCTIONS }
     requires within { IsWithin tally }
     ensures gives { Gives result (left tokens.new) (event_at functions.now tally (left tokens.old)) }
     ensures within { IfOk result (λ event. IsWithin (counted tally event)) }
@@ -112,7 +114,7 @@ pub fn read_events(
     tokens: &mut Tokens<'_>,
     functions: &[Function],
 ) -> Result<Events, ParseError>
-    requires { length functions.now ≤ 64 }
+    requires { length functions.now ≤ MAX_FUNCTIONS }
     ensures { Gives result (left tokens.new) (events_at functions.now [] (left tokens.old)) }
 {
     let mut events = Events::new(alloc);

@@ -17,6 +17,7 @@ ghost use Rattle.cj_events.specs.Rules.{history, replay};
 use crate::event_grammar::fits_replay;
 use crate::events::Events;
 use crate::readers::read_events;
+use cj_ir::limits::MAX_FUNCTIONS;
 use cj_ir::{Checked, Function};
 use cj_reader::read_program;
 use cj_tokens::{ParseError, Tokens};
@@ -29,7 +30,7 @@ fn read_listed(
     tokens: &mut Tokens<'_>,
     functions: &[Function],
 ) -> Result<Events, ParseError>
-    requires { length functions.now ≤ 64 }
+    requires { length functions.now ≤ MAX_FUNCTIONS }
     ensures { Gives result (left tokens.new) (history_at functions.now (left tokens.old)) }
 {
     let _word = tokens.take();

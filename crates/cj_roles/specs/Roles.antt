@@ -21,6 +21,7 @@ use Rattle.cj_roles.specs.declared.role.Role.{Role}
 use Rattle.cj_roles.specs.declared.role.Role.TheVariants.{Caller, Worker}
 use Rattle.cj_roles.specs.declared.role.Job.{Job}
 use Rattle.cj_roles.specs.declared.role.RoleDone.{RoleDone}
+use Rattle.cj_script.specs.declared.limits.TheConstants.{MAX_CALLS}
 
 -- both tables are of the program, with one slot for each function, and the calls are those of a script that fits it
 pub record IsRun (shared : Shared) : Type 0 where
@@ -28,7 +29,7 @@ pub record IsRun (shared : Shared) : Type 0 where
   pub one_slot : (key_of shared.code.now).slots ≡ 1
   pub counted : counts.program_of shared.profile.now ≡ shared.checked.now
   pub calls : All (FitsCall shared.checked.now.functions) shared.calls.now
-  pub few_calls : length shared.calls.now ≤ 256
+  pub few_calls : length shared.calls.now ≤ MAX_CALLS
 
 -- the same of an input and the tables of a store
 pub record IsRunOver (input : Input) (s : Store) : Type 0 where

@@ -17,6 +17,7 @@ use cj_ir::{NoMemory, ScriptCall};
 use cj_notes::Works;
 use cj_profile::ProfileSeat;
 use cj_publish::CodeSeat;
+use cj_script::limits::MAX_CALLS;
 use cj_session::{Session, Versions};
 use std::alloc::Global;
 use std::collections::VecDeque;
@@ -70,7 +71,7 @@ fn run_calls<G: Gate>(
 ) -> Result<VecDeque<Report>, NoMemory>
     requires ready { IsReady session.old }
     requires calls { All (FitsCall session.old.checked.now.functions) calls.now }
-    requires few { length calls.now ≤ 256 }
+    requires few { length calls.now ≤ MAX_CALLS }
     requires callers { (first < callers) × (callers ≤ 4) }
     ensures ready { IsReady session.new }
     ensures stays { Stays session.old session.new }

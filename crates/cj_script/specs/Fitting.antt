@@ -12,6 +12,7 @@ use Rattle.cj_ir.specs.declared.script.ScriptCall.{ScriptCall}
 use Rattle.cj_ir.specs.declared.script.Setup.{Setup}
 use Rattle.cj_ir.specs.declared.script.Setup.TheVariants.{Guess, Cold, Warm}
 use Rattle.cj_script.specs.Meaning.{is_cond}
+use Rattle.cj_script.specs.declared.limits.TheConstants.{MAX_CALLS}
 
 -- the function exists, and has that parameter
 abbrev pub HasParameter : List Function → FunId → ℕ → Type 0
@@ -36,5 +37,5 @@ pub record FitsCall (functions : List Function) (call : ScriptCall) : Type 0 whe
 pub record FitsScript (p : Program) (s : Script) : Type 0 where
   pub setups : All (FitsSetup p.functions) s.setups
   pub calls : All (FitsCall p.functions) s.calls
-  pub few_calls : length s.calls ≤ 256
+  pub few_calls : length s.calls ≤ MAX_CALLS
   pub few_turns : sum_by (λ call. call.limit) s.calls ≤ 4000000

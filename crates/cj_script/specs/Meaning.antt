@@ -24,12 +24,14 @@ use Rattle.cj_tokens.specs.declared.refusal.Refused.{Refused}
 use Rattle.cj_grammar.specs.Grammar.{Tree}
 use Rattle.cj_grammar.specs.Reading.{offends_if, missing, highest, each_offends}
 use Rattle.cj_grammar.specs.Rules.{numbers, begun, script_call, script_calls, guess_setup, edge, cold_setup, warm_setup, setup, setups, script}
+use Rattle.cj_ir.specs.declared.limits.TheConstants.{MAX_NAME}
+use Rattle.cj_script.specs.declared.limits.TheConstants.{MAX_CALLS, USUAL_CELLS}
 
 -- ---- tokens
 
--- a NAME of more than 32 bytes
+-- a NAME of too many bytes
 abbrev pub long_name : Lexeme → List Refused
-long_name t = offends_if (nat_lt 32 (length t.text)) t TooMany
+long_name t = offends_if (nat_lt MAX_NAME (length t.text)) t TooMany
 
 -- a NUM outside a range
 abbrev pub out_of_range : ℤ → ℤ → Lexeme → List Refused
@@ -99,10 +101,10 @@ begun_offences functions spent (name, (args, (Some (memory, cells), (word, limit
     callee_offences functions (length args) name.token
     ++ (out_of_range (pos 0) (pos 65536) cells.token ++ limit_offences spent limit.token)
 
--- 64 cells where nothing is said
+-- as many cells as are usual where nothing is said
 unfoldable pub cells_of : Tree begun → ℕ
 unfolding begun
-cells_of (name, (args, (None, (word, limit)))) = 64
+cells_of (name, (args, (None, (word, limit)))) = USUAL_CELLS
 cells_of (name, (args, (Some (memory, cells), (word, limit)))) = unsigned_abs cells.token.number
 
 -- the limit as it is written
@@ -131,11 +133,11 @@ unfoldable pub spent_by : List (Tree script_call) → ℤ
 spent_by [] = pos 0
 spent_by (call ∷ calls) = call_limit call +ℤ spent_by calls
 
--- at most 256 calls
+-- at most so many calls
 unfoldable pub call_offences : List Function → List (Tree script_call) → Tree script_call → List Refused
 unfolding script_call
 call_offences functions earlier (word, call) =
-    offends_if (nat_le 256 (length earlier)) word.token TooMany ++ begun_offences functions (spent_by earlier) call
+    offends_if (nat_le MAX_CALLS (length earlier)) word.token TooMany ++ begun_offences functions (spent_by earlier) call
 
 unfoldable pub calls_offences : List Function → Tree script_calls → List Refused
 unfolding script_calls

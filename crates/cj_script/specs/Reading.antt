@@ -17,6 +17,7 @@ use Rattle.cj_grammar.specs.OneAhead.{◌>>=◌}
 use Rattle.cj_grammar.specs.Reading.{offence}
 use Rattle.cj_grammar.specs.Readers.{Read}
 use Rattle.cj_script.specs.Meaning.{function_named, id_named, out_of_range, function_offences, callee_offences, limit_offences, parameter_offences, parameter_of, label_offences, label_of}
+use Rattle.cj_script.specs.declared.limits.TheConstants.{MAX_CALLS, USUAL_CELLS}
 
 -- the first offence, or a value
 abbrev pub judged : {X : Type 0} → List Refused → X → Result X Refused
@@ -41,7 +42,7 @@ cells_at ts =
     (is_terminal terminal.Memory (front ts))
     (judged (out_of_range (pos 0) (pos 65536) (front (behind ts))) (unsigned_abs (front (behind ts)).number)
     >>= λ cells. Ok (cells, behind (behind ts)))
-    (Ok (64, ts))
+    (Ok (USUAL_CELLS, ts))
 
 unfoldable pub limit_at : ℕ → List Lexeme → Read ℕ
 limit_at spent ts =
@@ -80,7 +81,7 @@ limits calls = sum_by (λ call. call.limit) calls
 unfoldable pub call_at : List Function → List ScriptCall → List Lexeme → Read ScriptCall
 call_at functions earlier ts =
     cond
-    (nat_le 256 (length earlier))
+    (nat_le MAX_CALLS (length earlier))
     (Err (offence (front ts) TooMany))
     (begun_at functions (limits earlier) (behind ts))
 

@@ -13,6 +13,8 @@ ghost use Rattle.cj_script.specs.Meaning.{begun_offences, begun_of};
 ghost use Rattle.cj_script.specs.Reading.{numbers_at, behind_numbers, cells_at, limit_at, begun_at};
 
 use crate::judge::{callee, limit_behind, number_within};
+use crate::limits::USUAL_CELLS;
+use cj_ir::limits::MAX_FUNCTIONS;
 use cj_ir::{Function, NoMemory, ScriptCall, Values};
 use cj_tokens::{ParseError, Terminal, Tokens};
 use std::alloc::Global;
@@ -31,7 +33,7 @@ fn read_numbers(alloc: Global, tokens: &mut Tokens<'_>) -> Result<Values, NoMemo
     Ok(numbers)
 }
 
-/// The cells behind `memory`, or 64 where it does not stand there.
+/// The cells behind `memory`, or as many as are usual where it does not stand there.
 #[tactic(auto, unfolding(crate::specs::Reading::cells_at))]
 fn read_cells(tokens: &mut Tokens<'_>) -> Result<u32, ParseError>
     ensures { Gives result (left tokens.new) (cells_at (left tokens.old)) }
@@ -42,7 +44,7 @@ fn read_cells(tokens: &mut Tokens<'_>) -> Result<u32, ParseError>
         let number = number_within(cells, 0, 65_536)?;
         Ok(number)
     } else {
-        Ok(64)
+        Ok(USUAL_CELLS)
     }
 }
 
@@ -67,7 +69,7 @@ pub fn read_run(
     functions: &[Function],
     spent: u32,
 ) -> Result<ScriptCall, ParseError>
-    requires few { length functions.now ≤ 64 }
+    requires few { length functions.now ≤ MAX_FUNCTIONS }
     requires spent { spent ≤ 4000000 }
     ensures gives { Gives result (left tokens.new) (begun_at functions.now spent (left tokens.old)) }
     ensures within { IfOk result (λ call. spent + call.limit ≤ 4000000) }
@@ -89,7 +91,7 @@ pub fn read_run(
 }
 
 /// What begins a run, behind its first word, where `spent` is the sum of the limits before it, at most 4,000,000: a
-/// function of the program, its arguments, the cells, which are 64 where nothing is said and at most 65,536, and the
+/// function of the program, its arguments, the cells, which are `USUAL_CELLS` where nothing is said and at most 65,536, and the
 /// limit, from 1 to 1,000,000. Refused: the first offence of its tokens. After an error the tokens stand somewhere
 /// behind where they stood.
 pub fn read_begun(
@@ -98,7 +100,7 @@ pub fn read_begun(
     functions: &[Function],
     spent: u32,
 ) -> Result<ScriptCall, ParseError>
-    requires few { length functions.now ≤ 64 }
+    requires few { length functions.now ≤ MAX_FUNCTIONS }
     requires spent { spent ≤ 4000000 }
     ensures meaning { (t : Tree begun) (rest : List Lexeme) → left tokens.old ≡ leaves begun t ++ rest →
         Gives result (left tokens.new) (reads (begun_offences functions.now (pos spent) t) (begun_of functions.now t) rest) }

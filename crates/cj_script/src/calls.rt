@@ -6,7 +6,9 @@ ghost use Rattle.cj_grammar.specs.Readers.{Gives};
 ghost use Rattle.cj_script.specs.Reading.{limits, call_at, calls_at};
 
 use crate::begun::read_run;
+use crate::limits::MAX_CALLS;
 use cj_grammar::refused;
+use cj_ir::limits::MAX_FUNCTIONS;
 use cj_ir::{Function, ScriptCall, ScriptCalls};
 use cj_tokens::{Kind, ParseError, Terminal, Tokens};
 use std::alloc::Global;
@@ -20,14 +22,14 @@ fn read_call(
     earlier: &[ScriptCall],
     spent: u32,
 ) -> Result<ScriptCall, ParseError>
-    requires few { length functions.now ≤ 64 }
+    requires few { length functions.now ≤ MAX_FUNCTIONS }
     requires sum { limits earlier.now ≡ spent }
     requires spent { spent ≤ 4000000 }
     ensures gives { Gives result (left tokens.new) (call_at functions.now earlier.now (left tokens.old)) }
     ensures within { IfOk result (λ call. spent + call.limit ≤ 4000000) }
 {
     let word = tokens.take();
-    if earlier.len() >= 256 {
+    if earlier.len() >= MAX_CALLS {
         return Err(refused(word, Kind::TooMany));
     }
     read_run(alloc, tokens, functions, spent)
@@ -40,7 +42,7 @@ pub fn read_calls(
     tokens: &mut Tokens<'_>,
     functions: &[Function],
 ) -> Result<ScriptCalls, ParseError>
-    requires { length functions.now ≤ 64 }
+    requires { length functions.now ≤ MAX_FUNCTIONS }
     ensures { Gives result (left tokens.new) (calls_at functions.now [] (left tokens.old)) }
 {
     let mut calls = ScriptCalls::new(alloc);

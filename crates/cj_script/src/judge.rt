@@ -7,6 +7,7 @@ ghost use Rattle.cj_script.specs.Meaning.{is_named, function_named, id_named, ou
 ghost use Rattle.cj_script.specs.Reading.{judged};
 
 use cj_grammar::refused;
+use cj_ir::limits::{MAX_FUNCTIONS, MAX_NAME};
 use cj_ir::{FunId, Function};
 use cj_tokens::{Kind, Lexeme, ParseError};
 
@@ -46,15 +47,15 @@ pub fn place_named(functions: &[Function], name: Lexeme<'_>) -> Option<usize>
         .position(|function| function.name.bytes() == name.text)
 }
 
-/// The function that a name names. Refused: a name of more than 32 bytes with TooMany, one of no function with NoFunction.
+/// The function that a name names. Refused: a name of too many bytes with TooMany, one of no function with NoFunction.
 #[tactic(auto, using(crate::proofs::Naming::named_judged, crate::proofs::Naming::unnamed_judged, crate::proofs::Naming::placed_named), unfolding(crate::specs::Meaning::function_offences))]
 pub fn function_id(functions: &[Function], name: Lexeme<'_>) -> Result<FunId, ParseError>
-    requires { length functions.now ≤ 64 }
+    requires { length functions.now ≤ MAX_FUNCTIONS }
     ensures named { Found result (judged (function_offences functions.now (seen name.entry)) (id_named functions.now (seen name.entry))) }
     ensures within { IfOk result (λ id. id.0 < length functions.now) }
     ensures function { IfOk result (λ id. slice_get functions.now id.0 ≡ function_named functions.now (seen name.entry)) }
 {
-    if name.text.len() > 32 {
+    if name.text.len() > MAX_NAME {
         return Err(refused(name, Kind::TooMany));
     }
     match place_named(functions, name) {
@@ -73,7 +74,7 @@ pub fn function_at(functions: &[Function], id: FunId) -> &Function
 /// The function that a name names, if it has that many parameters.
 #[tactic(auto, using(crate::proofs::Naming::callee_judged, crate::proofs::Naming::count_judged, crate::proofs::Naming::callee_unnamed))]
 pub fn callee(functions: &[Function], count: usize, name: Lexeme<'_>) -> Result<FunId, ParseError>
-    requires { length functions.now ≤ 64 }
+    requires { length functions.now ≤ MAX_FUNCTIONS }
     ensures { Found result (judged (callee_offences functions.now count (seen name.entry)) (id_named functions.now (seen name.entry))) }
 {
     let id = function_id(functions, name)?;

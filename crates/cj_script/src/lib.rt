@@ -4,6 +4,7 @@
 mod begun;
 mod calls;
 mod judge;
+pub mod limits;
 mod places;
 mod script;
 mod setups;

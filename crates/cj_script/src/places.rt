@@ -7,6 +7,7 @@ ghost use Rattle.cj_script.specs.Meaning.{is_numbered, is_cond, parameter_named,
 ghost use Rattle.cj_script.specs.Reading.{judged};
 
 use cj_grammar::refused;
+use cj_ir::limits::{MAX_LABELS, MAX_NAME};
 use cj_ir::{Function, Instr, Label, Line};
 use cj_tokens::{Kind, Lexeme, ParseError};
 
@@ -27,7 +28,7 @@ fn parameter_named(function: &Function, name: Lexeme<'_>) -> Option<usize>
 pub fn parameter_place(function: &Function, name: Lexeme<'_>) -> Result<u32, ParseError>
     ensures { Found result (judged (parameter_offences (Some function.now) (seen name.entry)) (parameter_of (Some function.now) (seen name.entry))) }
 {
-    if name.text.len() > 32 {
+    if name.text.len() > MAX_NAME {
         return Err(refused(name, Kind::TooMany));
     }
     match parameter_named(function, name) {
@@ -62,7 +63,7 @@ fn is_cond(instr: &Instr) -> bool
 
 /// The label of the `cond` that a number numbers.
 pub fn cond_place(function: &Function, number: Lexeme<'_>) -> Result<Label, ParseError>
-    requires { length function.now.code ≤ 256 }
+    requires { length function.now.code ≤ MAX_LABELS }
     ensures { Found result (judged (label_offences (Some function.now) (seen number.entry)) (label_of (Some function.now) (seen number.entry))) }
 {
     match line_numbered(function, number) {

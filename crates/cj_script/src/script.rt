@@ -13,6 +13,7 @@ ghost use Rattle.cj_script.specs.Reading.{script_at};
 
 use crate::calls::read_calls;
 use crate::setups::read_setups;
+use cj_ir::limits::{MAX_FUNCTIONS, MAX_LABELS};
 use cj_ir::{Checked, Function, Script};
 use cj_tokens::{ParseError, Tokens};
 use std::alloc::Global;
@@ -24,8 +25,8 @@ fn read_lines(
     tokens: &mut Tokens<'_>,
     functions: &[Function],
 ) -> Result<Script, ParseError>
-    requires few { length functions.now ≤ 64 }
-    requires short { All (λ f. length f.code ≤ 256) functions.now }
+    requires few { length functions.now ≤ MAX_FUNCTIONS }
+    requires short { All (λ f. length f.code ≤ MAX_LABELS) functions.now }
     ensures { Gives result (left tokens.new) (script_at functions.now (left tokens.old)) }
 {
     let _calls = tokens.take();

@@ -8,6 +8,7 @@ ghost use Rattle.cj_script.specs.Reading.{guess_at, cold_at, warm_at, setup_at, 
 
 use crate::judge::{function_at, function_id, number_within};
 use crate::places::{cond_place, parameter_place};
+use cj_ir::limits::{MAX_FUNCTIONS, MAX_LABELS};
 use cj_ir::{Edge, Function, Setup, Setups};
 use cj_tokens::{ParseError, Terminal, Tokens};
 use std::alloc::Global;
@@ -15,7 +16,7 @@ use std::alloc::Global;
 /// A function, a parameter and its value.
 #[tactic(auto, unfolding(crate::specs::Reading::guess_at))]
 fn read_guess(tokens: &mut Tokens<'_>, functions: &[Function]) -> Result<Setup, ParseError>
-    requires { length functions.now ≤ 64 }
+    requires { length functions.now ≤ MAX_FUNCTIONS }
     ensures { Gives result (left tokens.new) (guess_at functions.now (left tokens.old)) }
 {
     let name = tokens.take();
@@ -46,8 +47,8 @@ fn read_edge(tokens: &mut Tokens<'_>) -> Edge
 /// A function, the number of a `cond`, and one of its edges.
 #[tactic(auto, unfolding(crate::specs::Reading::cold_at))]
 fn read_cold(tokens: &mut Tokens<'_>, functions: &[Function]) -> Result<Setup, ParseError>
-    requires few { length functions.now ≤ 64 }
-    requires short { All (λ f. length f.code ≤ 256) functions.now }
+    requires few { length functions.now ≤ MAX_FUNCTIONS }
+    requires short { All (λ f. length f.code ≤ MAX_LABELS) functions.now }
     ensures { Gives result (left tokens.new) (cold_at functions.now (left tokens.old)) }
 {
     let name = tokens.take();
@@ -65,7 +66,7 @@ fn read_cold(tokens: &mut Tokens<'_>, functions: &[Function]) -> Result<Setup, P
 /// A function and a level.
 #[tactic(auto, unfolding(crate::specs::Reading::warm_at))]
 fn read_warm(tokens: &mut Tokens<'_>, functions: &[Function]) -> Result<Setup, ParseError>
-    requires { length functions.now ≤ 64 }
+    requires { length functions.now ≤ MAX_FUNCTIONS }
     ensures { Gives result (left tokens.new) (warm_at functions.now (left tokens.old)) }
 {
     let name = tokens.take();
@@ -81,8 +82,8 @@ fn read_warm(tokens: &mut Tokens<'_>, functions: &[Function]) -> Result<Setup, P
 /// One setup.
 #[tactic(auto, unfolding(crate::specs::Reading::setup_at))]
 fn read_setup(tokens: &mut Tokens<'_>, functions: &[Function]) -> Result<Setup, ParseError>
-    requires few { length functions.now ≤ 64 }
-    requires short { All (λ f. length f.code ≤ 256) functions.now }
+    requires few { length functions.now ≤ MAX_FUNCTIONS }
+    requires short { All (λ f. length f.code ≤ MAX_LABELS) functions.now }
     ensures { Gives result (left tokens.new) (setup_at functions.now (left tokens.old)) }
 {
     if tokens.is_at(Terminal::Guess) {
@@ -111,8 +112,8 @@ pub fn read_setups(
     tokens: &mut Tokens<'_>,
     functions: &[Function],
 ) -> Result<Setups, ParseError>
-    requires few { length functions.now ≤ 64 }
-    requires short { All (λ f. length f.code ≤ 256) functions.now }
+    requires few { length functions.now ≤ MAX_FUNCTIONS }
+    requires short { All (λ f. length f.code ≤ MAX_LABELS) functions.now }
     ensures { Gives result (left tokens.new) (setups_at functions.now [] (left tokens.old)) }
 {
     let mut setups = Setups::new(alloc);

@@ -20,6 +20,7 @@ use Rattle.cj_world.specs.declared.world.WordCount.TheVariants.{Few, TooLarge}
 use Rattle.cj_world.specs.Worlds.{Run, World, codes_in}
 use Rattle.cj_world.specs.Caches.{made_in, IsReady}
 use Rattle.cj_world.specs.Played.{IsReadOff}
+use Rattle.cj_ir.specs.declared.limits.TheConstants.{MAX_FUNCTIONS}
 
 -- ---- a run
 
@@ -90,7 +91,7 @@ world_of w = record {
 -- The versions lie before the first free word, and each run is where its turns have brought it.
 pub record Orderly (w : whole.World) : Type 0 where
   pub ready : IsReady w.cache
-  pub few : length w.cache.checked.now.functions ≤ 64
+  pub few : length w.cache.checked.now.functions ≤ MAX_FUNCTIONS
   pub before : All (λ made. made.offset < w.next) (made_in w.cache)
   pub fit : All (Fits w.cache.checked.now (codes_in (made_in w.cache))) w.runs.items
 
