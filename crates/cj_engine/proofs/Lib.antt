@@ -14,6 +14,7 @@ pub mod Paths
 pub mod Gliding
 pub mod Lines
 pub mod Onwards
+pub mod Stopping
 pub mod Keeping
 pub mod Existing
 pub mod PlainTrails

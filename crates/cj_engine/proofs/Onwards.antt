@@ -148,15 +148,16 @@ pub takes_later : (P : Program) (codes later : Codes) (s : State) → Grows code
 takes_later P codes later s g takes = top_takes_later P codes later s.memory s.stack.top g takes
 
 -- a turn that found none, after none
-pub halted_here : (P : Program) (went : List Mark → Type 0) (codes : Codes) (looks before after : List Look) (count : ℕ) (s : State) → 1 ≤ count → TurnTakesMemory P codes s → TellsAtMost went before after (turn_marks P codes s) → Halted P went codes looks looks before after count s s
+pub halted_here : (P : Program) (went : List Mark → Type 0) (codes : Codes) (looks before after : List Look) (count : ℕ) (s : State) → 1 ≤ count → s.entries ≡ length looks → TurnTakesMemory P codes s → TellsAtMost went before after (turn_marks P codes s) → Halted P went codes looks looks before after count s s
 unfolding turns_from marks_from
-halted_here P went codes looks before after count s some takes told = record {
+halted_here P went codes looks before after count s some used takes told = record {
   turns = 0;
   fewer = some;
   made = refl;
   takes = takes;
   more = [];
   looks_more = sym (append-nil looks);
+  used = used;
   told = tells_by went went before (before ++ []) after (turn_marks P codes s) (λ ms w. w) (sym (append-nil before)) told;
 }
 
@@ -176,6 +177,7 @@ halted_then P one other went mid later looks at now before between after m n cou
       takes = second.takes;
       more = gains.more ++ second.more;
       looks_more = second.looks_more ∙ ap (λ (xs : List Look). xs ++ second.more) gains.looks_more ∙ append_assoc looks gains.more second.more;
+      used = second.used;
       told = tells_by (λ ms. other (marks_from P later now (Continues u) h ++ ms)) (λ ms. went (marks_from P later now (Continues s) (h + m) ++ ms)) (between ++ second.more) (before ++ (gains.more ++ second.more)) after (turn_marks P later t)
           (λ ms w.
           let all : (marks_from P mid at (Continues s) m ++ (marks_from P later now (Continues u) h ++ ms)) ≡ marks_from P later now (Continues s) (h + m) ++ ms =
@@ -219,8 +221,8 @@ stop_stretch P went codes later args f label looks at now count s u step answer 
     }
 
 -- memory ran out in a step that leaves nothing behind
-pub starved_halts : (P : Program) (went : List Mark → Type 0) (codes : Codes) (looks now trail : List Look) (count : ℕ) (s t : State) → went [] → now ≡ looks → Starves P codes count s t → Halted P went codes looks now trail trail count s t
-starved_halts P went codes looks now trail count s t none same st =
+pub starved_halts : (P : Program) (went : List Mark → Type 0) (codes : Codes) (looks now trail : List Look) (count : ℕ) (s t : State) → went [] → now ≡ looks → t.entries ≡ length now → Starves P codes count s t → Halted P went codes looks now trail trail count s t
+starved_halts P went codes looks now trail count s t none same used st =
     let path = quiet_onward P codes codes now st.turns s t (same_codes codes) st.quiet in
     record {
       turns = st.turns;
@@ -229,11 +231,13 @@ starved_halts P went codes looks now trail count s t none same st =
       takes = st.takes;
       more = [];
       looks_more = same ∙ sym (append-nil looks);
+      used = used;
       told = inl (subst went (sym (ap (λ (xs : List Mark). xs ++ []) path.told)) none, sym (append-nil trail));
     }
 
 -- memory ran out in an entry
 pub stopped_halts : (P : Program) (went : List Mark → Type 0) (codes later : Codes) (args : List ℤ) (f : FunId) (label : Label) (looks first last : List Look) (count : ℕ) (s : State) (u t : Machine) (step : Step) → Grows codes later → u.looks ≡ looks → Stops P codes args f label count s (state_of u) step → IsEntry step → TellsAtMost went first last (marks_told step f label args) → t ≡ u → Halted P went later looks t.looks first last count s (state_of t)
+unfolding state_of
 stopped_halts P went codes later args f label looks first last count s u t step grows same st enters told is =
     let n = st.turns in
     let mid = st.mid in
@@ -251,6 +255,7 @@ stopped_halts P went codes later args f label looks first last count s u t step 
       takes = takes_later P codes later mid grows (st.takes enters);
       more = [];
       looks_more = ap (λ (m : Machine). m.looks) is ∙ same ∙ sym (append-nil looks);
+      used = ap (λ (x : State). x.entries) own;
       told = tells_by went (λ ms. went (marks_from P later now (Continues s) n ++ ms)) first (first ++ []) last (turn_marks P later mid)
           (λ ms w. none_before went (marks_from P later now (Continues s) n) ms path.told w) (sym (append-nil first)) told2;
     })
@@ -329,10 +334,10 @@ at_once P went codes looks more now before after turns s t first used used_then 
           (tells_by went went (before ++ more) before after (turn_marks P codes t) (λ ms w. w) (ap (λ (xs : List Look). before ++ xs) no_more ∙ append-nil before) told0);
     }
 
-pub halted_at_once : (P : Program) (went : List Mark → Type 0) (codes : Codes) (looks now before after : List Look) (s t : State) → s.entries ≡ length looks → t.entries ≡ length now → Halted P went codes looks now before after 1 s t → HaltedAtOnce P went codes looks now before after s t
-halted_at_once P went codes looks now before after s t used used_then h =
+pub halted_at_once : (P : Program) (went : List Mark → Type 0) (codes : Codes) (looks now before after : List Look) (s t : State) → s.entries ≡ length looks → Halted P went codes looks now before after 1 s t → HaltedAtOnce P went codes looks now before after s t
+halted_at_once P went codes looks now before after s t used h =
     let fewer = h.fewer in
-    at_once P went codes looks h.more now before after h.turns s t (omega arith) used used_then h.made h.looks_more h.takes h.told
+    at_once P went codes looks h.more now before after h.turns s t (omega arith) used h.used h.made h.looks_more h.takes h.told
 
 pub same_view : (P Q : Program) (s t : State) (looks now : List Look) (running : Bool) → Q ≡ P → t ≡ s → now ≡ looks → viewed Q t now running ≡ viewed P s looks running
 same_view P Q s t looks now running program state same =

@@ -12,3 +12,4 @@ pub mod Engines
 pub mod Walks
 pub mod OneVersion
 pub mod Stretches
+pub mod Stopped

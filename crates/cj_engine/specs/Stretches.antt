@@ -1,5 +1,5 @@
 -- Turns, one after the other.
-use Rattle.std.specs.Prelude.{◌≡◌, ◌≢◌, ◌⊎◌, ◌<◌, ◌≤◌, ◌+◌, ◌++◌, ℕ, zero, suc, List, [], Option, ℤ}
+use Rattle.std.specs.Prelude.{◌≡◌, ◌≢◌, ◌⊎◌, ◌<◌, ◌≤◌, ◌+◌, ◌++◌, ℕ, zero, suc, List, [], length, Option, ℤ}
 use Rattle.cj_ir.specs.declared.language.FunId.{FunId}
 use Rattle.cj_ir.specs.declared.language.Label.{Label}
 use Rattle.cj_ir.specs.declared.language.Program.{Program}
@@ -82,8 +82,9 @@ pub record Stretched (P : Program) (went : List Mark → Type 0) (codes : Codes)
   pub few : turns ≤ count
   pub onward : Onward P went codes trail turns s answer t
 
--- Memory ran out after some of so many turns, and the run is where those brought it. Their marks were told, and of the
--- turn that found no memory nothing, or its entry. `looks` and `before` were the looks of the run and of the watch.
+-- Memory ran out after some of so many turns, and the run is where those brought it, with all its looks used. Their marks
+-- were told, and of the turn that found no memory nothing, or its entry. `looks` and `before` were the looks of the run and
+-- of the watch.
 pub record Halted (P : Program) (went : List Mark → Type 0) (codes : Codes) (looks now before after : List Look) (count : ℕ) (s t : State) : Type 0 where
   pub turns : ℕ
   pub fewer : turns < count
@@ -91,4 +92,5 @@ pub record Halted (P : Program) (went : List Mark → Type 0) (codes : Codes) (l
   pub takes : TurnTakesMemory P codes t
   pub more : List Look
   pub looks_more : now ≡ looks ++ more
+  pub used : t.entries ≡ length now
   pub told : TellsAtMost (λ ms. went (marks_from P codes now (Continues s) turns ++ ms)) (before ++ more) after (turn_marks P codes t)

@@ -1,6 +1,6 @@
 //! The run of a call.
 
-ghost use Rattle.std.specs.Prelude.{◌≡◌, ◌≤◌, ◌++◌, length, Some, IfOk};
+ghost use Rattle.std.specs.Prelude.{◌≡◌, ◌≤◌, ◌++◌, length, Some, IfOk, OnErr};
 ghost use Rattle.cj_ir.specs.WellFormed.{Takes};
 ghost use Rattle.cj_base.specs.Run.{begun};
 ghost use Rattle.cj_calls.specs.Reports.{ReportStands, IsWhole};
@@ -8,6 +8,7 @@ ghost use Rattle.cj_engine.specs.VersionRuns.{version_report};
 ghost use Rattle.cj_engine.specs.Memories.{base_memory, version_memory};
 ghost use Rattle.cj_engine.specs.Marks.{run_marks};
 ghost use Rattle.cj_engine.specs.Watching.{Keeps};
+ghost use Rattle.cj_engine.specs.Stopped.{Stopped};
 ghost use Rattle.cj_engine.specs.Engines.{begun_with, end_after};
 
 use crate::engine::{Engine, Ran};
@@ -33,6 +34,8 @@ pub fn run<W: Watch>(
     ensures headline { IfOk result (λ report. ReportStands checked.now (begun call.now) report × IsWhole checked.now (begun call.now) report) }
     ensures went { IfOk result (λ report. W.went watch.old watch.new
         (run_marks checked.now (W.codes watch.new) report.looks (begun call.now) call.now.limit)) }
+    ensures stopped { OnErr result (Stopped checked.now (W.went watch.old watch.new) (W.codes watch.new)
+        (W.trail watch.old) (W.trail watch.new) (begun call.now)) }
     ensures keeps { Keeps W.program W.codes W.stays W.ready watch.old watch.new }
 {
     let memory = zeros(alloc, call.cells as usize)?;
@@ -60,6 +63,8 @@ pub fn run_from<W: Watch>(
         (run_marks checked.now (W.codes watch.new) ran.report.looks (begun_with call.now memory) call.now.limit)) }
     ensures memory { IfOk result (λ ran. version_memory checked.now (W.codes watch.new) ran.report.looks (begun_with call.now memory) ≡ Some ran.memory) }
     ensures agrees { IfOk result (λ ran. ran.memory ≡ base_memory checked.now (begun_with call.now memory) ran.report.base_turns) }
+    ensures stopped { OnErr result (Stopped checked.now (W.went watch.old watch.new) (W.codes watch.new)
+        (W.trail watch.old) (W.trail watch.new) (begun_with call.now memory)) }
     ensures keeps { Keeps W.program W.codes W.stays W.ready watch.old watch.new }
 {
     let _program = checked.program();

@@ -1,6 +1,6 @@
 -- What a session's run says, in the form that records cite.
 use Rattle.std.proofs.Common.{◌≡◌, ◌∙◌, refl, sym, ap, subst, List, [], ◌∷◌, ◌++◌, map, Some}
-use Rattle.std.specs.Prelude.{All, IfOk, Result, Ok, Err}
+use Rattle.std.specs.Prelude.{All, IfOk, OnErr, Result, Ok, Err}
 use Rattle.cj_ir.specs.declared.memory.NoMemory.{NoMemory}
 use Rattle.cj_base.specs.Run.{Begun}
 use Rattle.cj_calls.specs.declared.report.Look.{Look}
@@ -11,6 +11,8 @@ use Rattle.cj_engine.specs.declared.engine.Ran as engine
 use Rattle.cj_engine.proofs.Memories.{memory_kept}
 use Rattle.cj_engine.specs.Marks.{Mark, run_marks}
 use Rattle.cj_engine.specs.CodeMaps.{Grows}
+use Rattle.cj_engine.specs.Stopped.{Stopped}
+use Rattle.cj_engine.proofs.Stopping.{stopped_later, stopped_once, stopped_by}
 use Rattle.cj_session.specs.declared.session.Session.{Session}
 use Rattle.cj_session.specs.Sessions.{codes_of, trail_of, reads_in, look_of, view_in, IsReady, Stays, Went}
 use Rattle.cj_session.proofs.Whole.{known_grow}
@@ -18,12 +20,19 @@ use Rattle.cj_parts.specs.Parts.{InParts, MarkPart}
 use Rattle.std.proofs.lemmas.List.{map-append, append_cancel_left}
 use Rattle.cj_parts.specs.Known.{known_codes}
 use Rattle.cj_parts.specs.Looks.{looked, IsNotOlder}
-use Rattle.cj_parts.specs.Calls.{Stands, Ran}
+use Rattle.cj_parts.specs.Calls.{Stands, Ran, RanOut}
 use Rattle.cj_parts.proofs.Growth.{marks_grow, v_grows}
 
 looked_back : (looks : List Look) → map look_of (map looked looks) ≡ looks
 looked_back [] = refl
 looked_back (x ∷ looks) = ap (λ (l : List Look). x ∷ l) (looked_back looks)
+
+-- the looks that the trail gained are those that the session went through
+went_looks : (a b : Session) (marks : List Mark) (gained : List Look) → trail_of b ≡ trail_of a ++ gained → (w : Went a b marks) → w.looks ≡ gained
+went_looks a b marks gained trail w =
+    let more : trail_of b ≡ trail_of a ++ w.looks =
+    ap (map look_of) w.trail ∙ map-append look_of (view_in a).lookups (map looked w.looks) ∙ ap (λ (l : List Look). trail_of a ++ l) (looked_back w.looks) in
+    append_cancel_left (trail_of a) w.looks gained (sym more ∙ trail)
 
 module _ (call : Begun) (a b : Session) where
   session_ran : (r : Report) → IsReady b → Stays a b → trail_of b ≡ trail_of a ++ r.looks
@@ -33,9 +42,7 @@ module _ (call : Begun) (a b : Session) where
   session_ran r ready stays trail report stands w =
       let P = a.checked.now in
       let g : Grows (codes_of b) (known_codes (view_in b)) = known_grow b.checked.now (view_in b) b.versions.map.entries ready.known ready.code.reliable in
-      let gained : trail_of b ≡ trail_of a ++ w.looks =
-      ap (map look_of) w.trail ∙ map-append look_of (view_in a).lookups (map looked w.looks) ∙ ap (λ (l : List Look). trail_of a ++ l) (looked_back w.looks) in
-      let looks : w.looks ≡ r.looks = append_cancel_left (trail_of a) w.looks r.looks (sym gained ∙ trail) in
+      let looks : w.looks ≡ r.looks = went_looks a b _ r.looks trail w in
       record {
         learns = w.learns;
         claim = stays.claim;
@@ -53,6 +60,35 @@ module _ (call : Begun) (a b : Session) where
           w.reads,
         );
       }
+
+  session_stopped : IsReady b → Stays a b → Stopped a.checked.now (Went a b) (codes_of b) (trail_of a) (trail_of b) call → RanOut a.checked.now call (view_in a) (view_in b) (reads_in a) (reads_in b)
+  session_stopped ready stays stopped =
+      let P = a.checked.now in
+      let known = known_codes (view_in b) in
+      let g : Grows (codes_of b) known = known_grow b.checked.now (view_in b) b.versions.map.entries ready.known ready.code.reliable in
+      let once = stopped_once P (Went a b) known (trail_of a) (trail_of b) call (stopped_later P (Went a b) (codes_of b) known (trail_of a) (trail_of b) call g stopped) in
+      let w : Went a b once.marks = once.told in
+      let looks : w.looks ≡ once.more = went_looks a b once.marks once.more once.gained w in
+      record {
+        learns = w.learns;
+        claim = stays.claim;
+        taken = stays.taken;
+        joined = stays.joined;
+        looks = once.more;
+        trail = w.trail ∙ ap (λ (l : List Look). (view_in a).lookups ++ map looked l) looks;
+        floor = subst (All (IsNotOlder (view_in a))) looks w.floor;
+        reads = (
+          w.part,
+          stopped_by P (λ ms. ms ≡ once.marks) (λ ms. InParts MarkPart ms w.part) known [] once.more call (λ ms e. subst (λ (xs : List Mark). InParts MarkPart xs w.part) (sym e) w.in_parts) once.rest,
+          w.reads,
+        );
+      }
+
+  -- what a run of the engine tells of its session, where memory ran out
+  pub ran_out_if : {A : Type 0} (result : Result A NoMemory) → IsReady b → Stays a b → OnErr result (Stopped a.checked.now (Went a b) (codes_of b) (trail_of a) (trail_of b) call)
+      → OnErr result (RanOut a.checked.now call (view_in a) (view_in b) (reads_in a) (reads_in b))
+  ran_out_if (Ok x) ready stays stopped = tt
+  ran_out_if (Err e) ready stays stopped = session_stopped ready stays stopped
 
   -- what a run of the engine tells of its session, where it has a report
   module _ {A : Type 0} (report : A → Report) where

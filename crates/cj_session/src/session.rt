@@ -1,6 +1,6 @@
 //! A session: two seats, and the versions that it has read.
 
-ghost use Rattle.std.specs.Prelude.{◌≡◌, ◌≤◌, None, Some, IfOk, length};
+ghost use Rattle.std.specs.Prelude.{◌≡◌, ◌≤◌, None, Some, IfOk, OnErr, length};
 ghost use Rattle.cj_ir.specs.WellFormed.{Takes};
 ghost use Rattle.cj_base.specs.Run.{begun};
 ghost use Rattle.cj_engine.specs.Engines.{begun_with};
@@ -8,7 +8,7 @@ ghost use Rattle.cj_engine.specs.Memories.{base_memory, version_memory};
 ghost use Rattle.cj_profile.specs.Seats as counts;
 ghost use Rattle.cj_publish.specs.Seats.{view_of, key_of, program_of, Belongs};
 ghost use Rattle.cj_parts.specs.Known.{known_codes};
-ghost use Rattle.cj_parts.specs.Calls.{Ran};
+ghost use Rattle.cj_parts.specs.Calls.{Ran, RanOut};
 ghost use Rattle.cj_session.specs.Versions.{AreKnown};
 ghost use Rattle.cj_session.specs.Sessions.{IsReady, Stays, view_in, reads_in};
 
@@ -66,7 +66,8 @@ impl<'a> Session<'a> {
         }
     }
 
-    /// Runs a call. It begins with a memory of zeros.
+    /// Runs a call. It begins with a memory of zeros. After want of memory the session may be used again: its seat has looked up
+    /// and counted what a beginning of the run asks for.
     pub fn run(&mut self, call: &ScriptCall) -> Result<Report, NoMemory>
         requires ready { IsReady self.old }
         requires takes { Takes self.old.checked.now.functions call.now.function (length call.now.args) }
@@ -74,6 +75,7 @@ impl<'a> Session<'a> {
         ensures ready { IsReady self.new }
         ensures stays { Stays self.old self.new }
         ensures ran { IfOk result (λ report. Ran self.old.checked.now (begun call.now) report (view_in self.old) (view_in self.new) (reads_in self.old) (reads_in self.new)) }
+        ensures ran_out { OnErr result (RanOut self.old.checked.now (begun call.now) (view_in self.old) (view_in self.new) (reads_in self.old) (reads_in self.new)) }
     {
         engine::run(self.alloc, self.checked, call, self)
     }
@@ -89,6 +91,7 @@ impl<'a> Session<'a> {
         ensures ran { IfOk result (λ made. Ran self.old.checked.now (begun_with call.now memory) made.report (view_in self.old) (view_in self.new) (reads_in self.old) (reads_in self.new)) }
         ensures memory { IfOk result (λ made. version_memory self.old.checked.now (known_codes (view_in self.new)) made.report.looks (begun_with call.now memory) ≡ Some made.memory) }
         ensures agrees { IfOk result (λ made. made.memory ≡ base_memory self.old.checked.now (begun_with call.now memory) made.report.base_turns) }
+        ensures ran_out { OnErr result (RanOut self.old.checked.now (begun_with call.now memory) (view_in self.old) (view_in self.new) (reads_in self.old) (reads_in self.new)) }
     {
         engine::run_from(self.alloc, self.checked, call, memory, self)
     }

@@ -1,12 +1,13 @@
-use Rattle.std.proofs.Common.{◌∙◌, sym, ap, subst, arith, ℕ, ◌++◌, append_assoc}
+use Rattle.std.proofs.Common.{◌∙◌, inr, sym, ap, subst, arith, ℕ, ◌++◌, append_assoc}
 use Rattle.cj_ir.specs.declared.language.Program.{Program}
 use Rattle.cj_engine.specs.VersionRuns.{report_of}
 use Rattle.cj_engine.specs.CodeMaps.{SoundCodes}
 use Rattle.cj_engine.specs.Engines.{begun_with, HasRoom, IsRun, RunGoes}
-use Rattle.cj_engine.specs.Stretches.{Onward}
+use Rattle.cj_engine.specs.Stretches.{Onward, Halted}
 use Rattle.cj_engine.proofs.Reporting.{report_agrees}
 use Rattle.cj_engine.proofs.Keeping.{keeps_then}
-use Rattle.cj_engine.proofs.Onwards.{whole_run, whole_marks}
+use Rattle.cj_engine.proofs.Onwards.{whole_run, whole_marks, refused_so}
+use Rattle.cj_engine.proofs.Stopping.{halted_stops}
 use Rattle.cj_engine.proofs.calls.run_from.Goals as goal
 
 pub advance-requires-clause-room : goal.advance-requires-clause-room
@@ -157,3 +158,26 @@ returns-clause-keeps g c =
 pub returns-in_err-turned-clause-keeps : goal.returns-in_err-turned-clause-keeps
 returns-in_err-turned-clause-keeps g c =
     keeps_then g.W.Watch.program g.W.Watch.codes g.W.Watch.stays g.W.Watch.ready c.args.watch.now c.start_from.new.watch c.advance.new.watch (g.met.W.Watch.stays_on c.args.watch.now c.start_from.new.watch c.advance.new.watch) c.in_ok-engine.ensures.keeps c.in_err-turned.ensures.keeps
+
+pub returns-in_err-turned-clause-stopped : goal.returns-in_err-turned-clause-stopped
+unfolding begun_with
+returns-in_err-turned-clause-stopped g c =
+    let e = c.in_ok-engine.ensures in
+    let a = c.in_err-turned.ensures in
+    let P = c.args.checked.now in
+    let codes = g.W.Watch.codes c.start_from.new.watch in
+    let later = g.W.Watch.codes c.advance.new.watch in
+    let call = begun_with c.args.call.now c.args.memory in
+    let looks = c.in_ok-engine.engine.looks in
+    let now = c.advance.new.self.looks in
+    let s = c.in_ok-engine.engine.state in
+    let t = c.advance.new.self.state in
+    let before = g.W.Watch.trail c.args.watch.now in
+    let between = g.W.Watch.trail c.start_from.new.watch in
+    let after = g.W.Watch.trail c.advance.new.watch in
+    let one = g.W.Watch.went c.args.watch.now c.start_from.new.watch in
+    let other = g.W.Watch.went c.start_from.new.watch c.advance.new.watch in
+    let went = g.W.Watch.went c.args.watch.now c.advance.new.watch in
+    let halted0 = subst (λ (Q : Program). Halted Q other later looks now between after c.from.result s t) e.program a.halted in
+    let halted : Halted P other later looks now between after call.limit s t = subst (λ (n : ℕ). Halted P other later looks now between after n s t) c.from.ensures halted0 in
+    refused_so _ _ (inr (halted_stops P one other went codes later looks now before between after call s t a.keeps.grows (g.met.W.Watch.went_on c.args.watch.now c.start_from.new.watch c.advance.new.watch) e.gains e.went e.run e.no_turns halted))

@@ -97,7 +97,7 @@ returns-in_err-turned-clause-only_then g c =
     let P = old.checked.now in
     let later = g.W.Watch.codes c.advance.new.watch in
     let went = g.W.Watch.went c.args.watch.now c.advance.new.watch in
-    let h = halted_at_once P went later old.machine.looks new.machine.looks (g.W.Watch.trail c.args.watch.now) (g.W.Watch.trail c.advance.new.watch) (state_of old.machine) (state_of new.machine) refl refl e.halted in
+    let h = halted_at_once P went later old.machine.looks new.machine.looks (g.W.Watch.trail c.args.watch.now) (g.W.Watch.trail c.advance.new.watch) (state_of old.machine) (state_of new.machine) refl e.halted in
     let takes : TurnTakesMemory P later (state_of old.machine) = h.takes in
     rw (← c.self.view_is) (refused_then _ _ takes)
 
@@ -110,7 +110,7 @@ returns-in_err-turned-clause-told g c =
     let P = old.checked.now in
     let later = g.W.Watch.codes c.advance.new.watch in
     let went = g.W.Watch.went c.args.watch.now c.advance.new.watch in
-    let h = halted_at_once P went later old.machine.looks new.machine.looks (g.W.Watch.trail c.args.watch.now) (g.W.Watch.trail c.advance.new.watch) (state_of old.machine) (state_of new.machine) refl refl e.halted in
+    let h = halted_at_once P went later old.machine.looks new.machine.looks (g.W.Watch.trail c.args.watch.now) (g.W.Watch.trail c.advance.new.watch) (state_of old.machine) (state_of new.machine) refl e.halted in
     let told : TellsAtMost went (g.W.Watch.trail c.args.watch.now) (g.W.Watch.trail c.advance.new.watch) (turn_marks P later (state_of old.machine)) = h.told in
     rw (← c.self.view_is) (refused_so _ _ told)
 
@@ -123,5 +123,5 @@ returns-in_err-turned-clause-no_memory g c =
     let P = old.checked.now in
     let later = g.W.Watch.codes c.advance.new.watch in
     let went = g.W.Watch.went c.args.watch.now c.advance.new.watch in
-    let h = halted_at_once P went later old.machine.looks new.machine.looks (g.W.Watch.trail c.args.watch.now) (g.W.Watch.trail c.advance.new.watch) (state_of old.machine) (state_of new.machine) refl refl e.halted in
+    let h = halted_at_once P went later old.machine.looks new.machine.looks (g.W.Watch.trail c.args.watch.now) (g.W.Watch.trail c.advance.new.watch) (state_of old.machine) (state_of new.machine) refl e.halted in
     rw (← c.self.view_is) (refused_so _ _ (same_view P new.checked.now (state_of old.machine) (state_of new.machine) old.machine.looks new.machine.looks false (ap (λ r. r.now) e.checked) h.same h.same_looks))

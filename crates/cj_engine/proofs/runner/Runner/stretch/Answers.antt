@@ -90,7 +90,7 @@ returns-in_err-stop-in-Version-clause-halted g c =
     let s = state_of c.args.self.now.machine in
     let e = c.in_err-stop-in-Version.ensures in
     let trail = g.W.Watch.trail c.args.watch.now in
-    refused_so _ _ (starved_halts P (g.W.Watch.went c.args.watch.now c.args.watch.now) codes c.args.self.now.machine.looks c.glide.new.self.machine.looks trail c.args.count s (state_of c.glide.new.self.machine) (g.met.W.Watch.went_nowhere c.args.watch.now) e.looks e.starved)
+    refused_so _ _ (starved_halts P (g.W.Watch.went c.args.watch.now c.args.watch.now) codes c.args.self.now.machine.looks c.glide.new.self.machine.looks trail c.args.count s (state_of c.glide.new.self.machine) (g.met.W.Watch.went_nowhere c.args.watch.now) e.looks refl e.starved)
 
 pub returns-in_err-turned-in_default-clause-halted : goal.returns-in_err-turned-in_default-clause-halted
 unfolding state_of

@@ -151,7 +151,7 @@ returns-in_err-end-clause-halted g c =
     let end = g.W.Watch.trail c.turn_base.new.watch in
     let takes = subst (λ r. TurnTakesMemory r.now later u) i.checked e.only_then in
     let told = subst (λ r. TellsAtMost other mid end (turn_marks r.now later u)) i.checked e.told in
-    let here = halted_here P other later between mid end 1 u (omega arith) takes told in
+    let here = halted_here P other later between mid end 1 u (omega arith) refl takes told in
     let second = subst (λ (m : Machine). Halted P other later between m.looks mid end 1 u (state_of m)) (sym e.no_memory) here in
     refused_so _ _ (halted_then P one other went now later c.args.self.now.machine.looks between c.turn_base.new.self.machine.looks first mid end c.loop.counter 1 c.args.count s u (state_of c.turn_base.new.self.machine) e.keeps.grows (g.met.W.Watch.went_on c.args.watch.now c.loop.watch c.turn_base.new.watch) i.gains i.onward second (omega arith))
 
