@@ -13,7 +13,7 @@ use cj_ir::{
 use itoa::Buffer;
 use std::alloc::Global;
 
-const COUNT: u32 = 32;
+const FUNCTIONS: u32 = 32;
 
 const LAST: u32 = 31;
 
@@ -43,7 +43,7 @@ pub(crate) fn drawn_functions(alloc: Global, draws: &mut Draws) -> Result<Functi
     ensures next { OnOk result (draws.new.state ≡ after 128 draws.old.state) }
 {
     let mut functions = Functions::new(alloc);
-    for index in 0..COUNT {
+    for index in 0..FUNCTIONS {
         push_function(alloc, &mut functions, index, draws)?;
     }
     Ok(functions)

@@ -7,14 +7,14 @@ use crate::draws::Draws;
 use cj_ir::{FunId, NoMemory, ScriptCall, ScriptCalls, Values};
 use std::alloc::Global;
 
-const COUNT: u32 = 256;
+const CALLS: u32 = 256;
 
 /// The 256 calls, which draw two numbers each.
 pub(crate) fn drawn_calls(alloc: Global, draws: &mut Draws) -> Result<ScriptCalls, NoMemory>
     ensures { IfOk result (λ calls. calls ≡ calls_drawn 256 draws.old.state) }
 {
     let mut calls = ScriptCalls::new(alloc);
-    for _place in 0..COUNT {
+    for _place in 0..CALLS {
         push_call(alloc, &mut calls, draws)?;
     }
     Ok(calls)
