@@ -21,10 +21,10 @@ abbrev pub IsApart : Program → ℕ → Type 0
 IsApart p i = (f : FunId) → f.0 < length p.functions → i ≡ number (Asked f) → ⊥
 
 abbrev with_read : View → ℕ → Option ℕ → ℕ → View
-with_read v i found left = record { live = v.live; sole = v.sole; program = v.program; reads = v.reads ++ record { word = i; found = found; left = left } ∷ []; joined = v.joined }
+with_read v i found left = record { live = v.live; sole = v.sole; program = v.program; reads = v.reads ++ record { word = i; found = found; left = left } ∷ []; joined = v.joined; splits = v.splits }
 
 follows : (v : View) (i : ℕ) (found : Option ℕ) (left : ℕ) → Follows v (with_read v i found left) (record { word = i; found = found; left = left })
-follows v i found left = record { live = refl; sole = refl; program = refl; reads = refl; joined = refl }
+follows v i found left = record { live = refl; sole = refl; program = refl; reads = refl; joined = refl; splits = refl }
 
 is_below : (vs : List View) (j : ℕ) (v : View) → get_elem? vs j ≡ some v → j < length vs
 is_below [] j v e = absurd (some-ne-none v (sym e))

@@ -1,6 +1,6 @@
 -- The rule of a profile's words, which holds between any two steps: asked levels are 0 to 3. It says nothing of counts,
 -- but that the only seat there ever was has itself made whatever stands in the words, which were 0 at first.
-use Rattle.std.specs.Prelude.{◌≡◌, ℕ, ◌+◌, ◌%◌, ◌^◌, ◌<◌, ◌≤◌, ◌==◌, max, true, false, Option, Some, None, [], ◌∷◌, ◌++◌, length, slice_index, if◌then◌else◌}
+use Rattle.std.specs.Prelude.{◌≡◌, ℕ, ◌+◌, ◌%◌, ◌^◌, ◌<◌, ◌≤◌, ◌==◌, max, Bool, true, false, Option, Some, None, [], ◌∷◌, ◌++◌, length, slice_index, if◌then◌else◌}
 use mathlib.Core.Option.{some}
 use lib.ListN.{get_elem?}
 use Rattle.atomic_table.specs.Table.{State, Me, Step}
@@ -26,19 +26,19 @@ pub record Ruled {S : Type 0} (p : Program) (s : State S View) : Type 0 where
 -- the view of the first seat, of one from which another was split off, of that other, of one that took in another, and of
 -- that other
 abbrev pub fresh : Program → View
-fresh p = record { live = true; sole = true; program = p; reads = []; joined = [] }
+fresh p = record { live = true; sole = true; program = p; reads = []; joined = []; splits = 0 }
 
 abbrev pub shared : View → View
-shared v = record { live = v.live; sole = false; program = v.program; reads = v.reads; joined = v.joined }
+shared v = record v { sole = false; splits = v.splits + 1 }
 
 abbrev pub given : View → View
-given v = record { live = v.live; sole = false; program = v.program; reads = []; joined = [] }
+given v = record v { sole = false; reads = []; joined = []; splits = 0 }
 
 abbrev pub joined_view : View → View → View
-joined_view v w = record { live = v.live; sole = v.sole; program = v.program; reads = v.reads; joined = v.joined ++ w.reads ∷ w.joined }
+joined_view v w = record v { joined = v.joined ++ w.reads ∷ w.joined; splits = v.splits + w.splits }
 
 abbrev pub spent_view : View
-spent_view = record { live = false; sole = false; program = record { functions = [] }; reads = []; joined = [] }
+spent_view = record { live = false; sole = false; program = record { functions = [] }; reads = []; joined = []; splits = 0 }
 
 -- a step appends its entry to the seat's reads
 pub record Follows (v w : View) (r : Read) : Type 0 where
@@ -47,10 +47,16 @@ pub record Follows (v w : View) (r : Read) : Type 0 where
   pub program : w.program ≡ v.program
   pub reads : w.reads ≡ v.reads ++ r ∷ []
   pub joined : w.joined ≡ v.joined
+  pub splits : w.splits ≡ v.splits
 
 -- the only seat finds what its own steps have left
 abbrev pub FindsOwn : {S : Type 0} → Step S → Me S View → Option ℕ → Type 0
 FindsOwn st m found = m.0.sole ≡ true → st.word < word_count m.0.program → Finds m.0.reads st.word found
+
+-- the seat keeps how many seats were split off it; off one that is not the first there were none
+pub record IsCounted (v : View) (first : Bool) (splits : ℕ) : Type 0 where
+  pub count : v.splits ≡ splits
+  pub later : first ≡ false → splits ≡ 0
 
 -- The kinds of step.
 

@@ -5,6 +5,7 @@ ghost use Rattle.cj_ir.specs.WellFormed.{IsFunctionFine};
 ghost use Rattle.cj_profile.specs.Words.{word_count};
 ghost use Rattle.cj_profile.specs.Limits.{IsLimited};
 ghost use Rattle.cj_profile.specs.Shapes.{shape_of};
+ghost use Rattle.cj_profile.specs.Rule.{IsCounted};
 ghost use Rattle.cj_ir.specs.declared.limits.TheConstants.{MAX_FUNCTIONS, MAX_LABELS};
 
 use crate::layout::FUNCTION_WORDS;
@@ -41,6 +42,7 @@ pub struct ProfileSeat {
     pub(crate) first: bool,
     pub(crate) splits: u32,
     ghost bare: { seat.me.1 ≡ [] },
+    ghost counted: { IsCounted seat.me.0 first splits },
 }
 
 impl Profile {

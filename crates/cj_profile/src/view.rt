@@ -11,11 +11,13 @@ pub struct Read {
 }
 
 /// Whether the seat was not joined into another yet, whether there never was another seat, the profile's program, the
-/// steps that the seat made, and those of the seats that were joined into it, a list for each.
+/// steps that the seat made, those of the seats that were joined into it, a list for each, and how many seats were split
+/// off it and off those.
 pub struct View {
     pub live: bool,
     pub sole: bool,
     pub program: Program,
     pub reads: LinkedList<Read>,
     pub joined: LinkedList<LinkedList<Read>>,
+    pub splits: u64,
 }
