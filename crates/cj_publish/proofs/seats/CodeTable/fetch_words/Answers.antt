@@ -57,7 +57,8 @@ load-word-requires c =
 
 pub invariant_of-seat-in-loop-i : goal.invariant_of-seat-in-loop-i
 invariant_of-seat-in-loop-i c = let s = c.loop-i.seat in let h =
-    after_fetch 0 (c.args.offset + c.loop-i.i) c.load-word.result s.seat.me c.load-word.new.seat.me s.held c.load-word.ensures.2 s.bare s.tied s.within in record { bare = h.0; tied = h.1; within = h.2; counted = record { count = h.3 ∙ s.counted.count; later = s.counted.later } }
+    after_fetch 0 (c.args.offset + c.loop-i.i) c.load-word.result s.seat.me c.load-word.new.seat.me s.held c.load-word.ensures.2 s.bare s.tied s.within in
+    record { bare = h.0; tied = h.1; within = h.2; counted = record { count = h.3 ∙ s.counted.count; later = s.counted.later } }
 
 pub loop-i-preserved : goal.loop-i-preserved
 loop-i-preserved c =
