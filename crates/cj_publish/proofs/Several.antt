@@ -42,7 +42,7 @@ pub held_is : (cl : Option Claim) (h : Option Held) (c : Claim) (d : Held) → c
 held_is cl h c d e f t = subst (λ (y : Option Claim × Option Held). IsHeld y.0 y.1) (λ i. (e i, f i)) t
 
 pub gains_same : (v : View) → Gains v v
-gains_same v = record { live = refl; sole = refl; key = refl; next = refl; lookups = refl; taken = refl; joined = refl; regions = λ x h. h; within = λ h. h }
+gains_same v = record { live = refl; sole = refl; key = refl; next = refl; lookups = refl; taken = refl; joined = refl; splits = refl; regions = λ x h. h; within = λ h. h }
 
 gains_region : (v u : View) (r : Region) → r.offset < u.key.size → Gains v u → Gains v (with_region u r)
 gains_region v u r inside g = record {
@@ -53,6 +53,7 @@ gains_region v u r inside g = record {
   lookups = g.lookups;
   taken = g.taken;
   joined = g.joined;
+  splits = g.splits;
   regions = λ x h. inr (g.regions x h);
   within = λ h. each_cons (λ (x : Region). x.offset < u.key.size) r u.regions inside (g.within h);
 }
@@ -66,6 +67,7 @@ gains_claim v u c g = record {
   lookups = g.lookups;
   taken = g.taken;
   joined = g.joined;
+  splits = g.splits;
   regions = g.regions;
   within = g.within;
 }
@@ -122,6 +124,7 @@ grows_same v = record {
   lookups = refl;
   taken = refl;
   joined = refl;
+  splits = refl;
   regions =
       λ x h. (x, h, refl, refl, refl, prefix_same x.read);
 }
@@ -139,6 +142,7 @@ grows_more v u at r g = record {
   lookups = g.lookups;
   taken = g.taken;
   joined = g.joined;
+  splits = g.splits;
   regions = λ x h.
       let y = g.regions x h in
       let p = same_place at r y.0 in
@@ -188,8 +192,9 @@ reads_more u f o n k at r ws at_is lt h finds =
 module _ {S : Type 0} where
   pub after_fetch : (slots at r : ℕ) (me me' : Me S View) (h : Option Held) → fetched (step slots at 0 0 none) me r me' → me.1 ≡ []
       → IsHeld me.0.claim h → IsWithin me.0 → (me'.1 ≡ []) × IsHeld me'.0.claim h × IsWithin me'.0
+      × (me'.0.splits ≡ me.0.splits)
   after_fetch slots at r me me' h f bare tied within =
-      (f.0 ∙ bare, subst (λ (y : View). IsHeld y.claim h) (sym f.1) tied, subst IsWithin (sym f.1) (within_more me.0 at r within))
+      (f.0 ∙ bare, subst (λ (y : View). IsHeld y.claim h) (sym f.1) tied, subst IsWithin (sym f.1) (within_more me.0 at r within), ap (λ (y : View). y.splits) f.1)
 
   pub grows_fetch : (slots at r : ℕ) (me me' : Me S View) (v : View) → fetched (step slots at 0 0 none) me r me' → Grows v me.0 → Grows v me'.0
   grows_fetch slots at r me me' v f g = subst (Grows v) (sym f.1) (grows_more v me.0 at r g)

@@ -24,6 +24,7 @@ pub record Gains (v w : View) : Type 0 where
   pub lookups : w.lookups ≡ v.lookups
   pub taken : w.taken ≡ v.taken
   pub joined : w.joined ≡ v.joined
+  pub splits : w.splits ≡ v.splits
   pub regions : Each (Has w.regions) v.regions
   pub within : Each (λ (r : Region). r.offset < v.key.size) v.regions → Each (λ (r : Region). r.offset < w.key.size) w.regions
 
@@ -66,5 +67,6 @@ pub record Grows (v w : View) : Type 0 where
   pub lookups : w.lookups ≡ v.lookups
   pub taken : w.taken ≡ v.taken
   pub joined : w.joined ≡ v.joined
+  pub splits : w.splits ≡ v.splits
   pub regions : Each (λ (x : Region). (y : Region) × Has w.regions y × (y.cell ≡ x.cell) × (y.offset ≡ x.offset) × (y.len ≡ x.len)
       × IsPrefix x.read y.read) v.regions

@@ -1,5 +1,5 @@
 -- What ties the fields of a seat to its view.
-use Rattle.std.specs.Prelude.{◌≡◌, ℕ, ◌+◌, ◌<◌, ◌≤◌, Option, Some, None, length}
+use Rattle.std.specs.Prelude.{◌≡◌, ℕ, ◌+◌, ◌<◌, ◌≤◌, Bool, false, Option, Some, None, length}
 use Rattle.cj_publish.specs.declared.view.Claim.{Claim}
 use Rattle.cj_publish.specs.declared.view.Region.{Region}
 use Rattle.cj_publish.specs.declared.view.View.{View}
@@ -20,3 +20,8 @@ IsHeld (Some c) None = ⊥
 pub record IsWithin (v : View) : Type 0 where
   pub claim : (c : Claim) → v.claim ≡ Some c → c.offset + c.len ≤ v.key.size
   pub within : Each (λ (r : Region). r.offset < v.key.size) v.regions
+
+-- the seat keeps how many seats were split off it; off one that is not the first there were none
+pub record IsCounted (v : View) (first : Bool) (splits : ℕ) : Type 0 where
+  pub count : v.splits ≡ splits
+  pub later : first ≡ false → splits ≡ 0

@@ -11,18 +11,18 @@ use Rattle.cj_publish.specs.Cells.{key_in}
 
 -- the first seat of a new table has seen nothing
 abbrev pub fresh : Key → View
-fresh k = record { live = true; sole = true; key = k; next = 0; claim = None; regions = []; lookups = []; taken = 0; joined = [] }
+fresh k = record { live = true; sole = true; key = k; next = 0; claim = None; regions = []; lookups = []; taken = 0; joined = []; splits = 0 }
 
 abbrev pub fresh_as : Told → View
 fresh_as t = fresh (key_in t)
 
--- the seat is one of several from now on
+-- the seat is one of several from now on, one of which was split off it
 abbrev pub shared : View → View
-shared v = record v { sole = false }
+shared v = record v { sole = false; splits = v.splits + 1 }
 
 -- a new seat has seen what the old one has
 abbrev pub given : View → View
-given v = record v { sole = false; claim = None; lookups = []; taken = 0; joined = [] }
+given v = record v { sole = false; claim = None; lookups = []; taken = 0; joined = []; splits = 0 }
 
 abbrev pub no_program : Program
 no_program = record { functions = [] }
@@ -33,7 +33,13 @@ spent_view = record (fresh (record { program = no_program; slots = 0; size = 0 }
 
 -- what both have seen and done
 abbrev pub joined_view : View → View → View
-joined_view v w = record v { next = max v.next w.next; regions = v.regions ++ w.regions; taken = v.taken + w.taken; joined = v.joined ++ w.lookups ∷ w.joined }
+joined_view v w = record v {
+  next = max v.next w.next;
+  regions = v.regions ++ w.regions;
+  taken = v.taken + w.taken;
+  joined = v.joined ++ w.lookups ∷ w.joined;
+  splits = v.splits + w.splits;
+}
 
 abbrev pub with_next : View → ℕ → View
 with_next v n = record v { next = n }

@@ -42,8 +42,8 @@ pub struct Region {
 }
 
 /// Whether the seat was not joined into another yet, whether there never was another, the key, the greatest first
-/// unclaimed word that it has seen, its claim, the regions that it has seen, its lookups, how many words it has claimed,
-/// and the lookups of those that were joined into it.
+/// unclaimed word that it has seen, its claim, the regions that it has seen, its lookups, how many words it has claimed, the
+/// lookups of those that were joined into it, and how many seats were split off it and off those.
 pub struct View {
     pub live: bool,
     pub sole: bool,
@@ -54,4 +54,5 @@ pub struct View {
     pub lookups: LinkedList<(Cell, u64)>,
     pub taken: u64,
     pub joined: LinkedList<LinkedList<(Cell, u64)>>,
+    pub splits: u64,
 }

@@ -22,7 +22,7 @@ use Rattle.cj_publish.specs.declared.view.View.{View}
 use Rattle.cj_publish.specs.Words.{Has}
 use Rattle.cj_publish.specs.Learns.{Learns, learns_more}
 use Rattle.cj_publish.specs.Seats.{view_of, key_of, program_of}
-use Rattle.cj_publish.specs.Views.{given, shared}
+use Rattle.cj_publish.specs.Views.{given}
 use Rattle.cj_parts.specs.Known.{known_codes}
 use Rattle.cj_notes.specs.declared.notes.WorkNote.{WorkNote}
 use Rattle.cj_notes.specs.declared.notes.WorkNote.TheVariants.{Published, Older, Full, TooLarge, NoneAsked, Taken}
@@ -51,7 +51,7 @@ use Rattle.cj_roles.specs.declared.joining.Answers.{Answers}
 use Rattle.cj_roles.specs.declared.role.Shared.{Shared}
 use Rattle.cj_roles.specs.Roles.{IsRun, IsRunOver, role_of, roles_in, callers_to}
 use Rattle.cj_roles.specs.Slots.{IsFor, HasEnded}
-use Rattle.cj_roles.specs.Dealt.{HasDealt, HasSplit}
+use Rattle.cj_roles.specs.Dealt.{HasDealt, HasSplit, but_for_splits}
 use Rattle.cj_roles.specs.Joined.{CanJoin, HasJoined, JoinsAll}
 use Rattle.cj_roles.specs.Piles.{ArePiles}
 use Rattle.cj_roles.specs.Ran.{RolesRan}
@@ -268,7 +268,7 @@ module _ (input : Input) (callers workers : ℕ) (warm : List WorkNote) (answers
 
 -- ---- from the seats that were dealt to those that were joined
 
-module _ (v w : View) (e : shared w ≡ shared v) where
+module _ (v w : View) (e : but_for_splits w ≡ but_for_splits v) where
   regions_are : w.regions ≡ v.regions
   regions_are = ap (λ (x : View). x.regions) e
 

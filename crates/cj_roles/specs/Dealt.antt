@@ -1,9 +1,9 @@
 -- Roles with seats that are split off those of a store.
-use Rattle.std.specs.Prelude.{◌≡◌, ℕ, ◌+◌, true, List, [], ◌∷◌, ◌++◌, length}
+use Rattle.std.specs.Prelude.{◌≡◌, ℕ, ◌+◌, true, false, List, [], ◌∷◌, ◌++◌, length}
 use Rattle.std.specs.List.{AllZip}
 use Rattle.cj_profile.specs.Seats as counts
 use Rattle.cj_publish.specs.Seats.{view_of, Belongs}
-use Rattle.cj_publish.specs.Views.{shared}
+use Rattle.cj_publish.specs.declared.view.View.{View}
 use Rattle.cj_records.specs.declared.store.Store.{Store}
 use Rattle.cj_roles.specs.declared.role.Role.{Role}
 use Rattle.cj_roles.specs.declared.role.Job.{Job}
@@ -18,14 +18,18 @@ pub record CanBeSplit (s : Store) : Type 0 where
   pub profile : counts.Belongs s.profile s.profile_seat
   pub profile_first : s.profile_seat.first ≡ true
 
--- the tables and what their seats show are those of before, but that the seats are some of several
+-- a view, whatever was split off its seat
+abbrev pub but_for_splits : View → View
+but_for_splits v = record v { sole = false; splits = 0 }
+
+-- the tables and what their seats show are those of before, but that so many seats were split off
 pub record HasSplit (n : ℕ) (a b : Store) : Type 0 where
   pub can : CanBeSplit b
   pub code_table : b.code ≡ a.code
   pub profile_table : b.profile ≡ a.profile
   pub code_splits : b.code_seat.splits ≡ a.code_seat.splits + n
   pub profile_splits : b.profile_seat.splits ≡ a.profile_seat.splits + n
-  pub view : shared (view_of b.code_seat) ≡ shared (view_of a.code_seat)
+  pub view : but_for_splits (view_of b.code_seat) ≡ but_for_splits (view_of a.code_seat)
   pub reads : counts.reads_of b.profile_seat ≡ counts.reads_of a.profile_seat
   pub joined : counts.joined_of b.profile_seat ≡ counts.joined_of a.profile_seat
 

@@ -1,6 +1,6 @@
 use Rattle.std.proofs.Common.{refl, ap}
 use Rattle.cj_publish.specs.declared.view.View.{View}
-use Rattle.cj_publish.specs.Views.{shared}
+use Rattle.cj_roles.specs.Dealt.{but_for_splits}
 use Rattle.cj_roles.proofs.dealing.add_role.Goals as goal
 
 pub returns : goal.returns
@@ -13,7 +13,7 @@ returns c =
         profile_table = refl;
         code_splits = code.splits.1;
         profile_splits = profile.splits.1;
-        view = ap shared code.kept;
+        view = ap but_for_splits code.kept;
         reads = profile.reads.0;
         joined = profile.reads.1;
       };

@@ -19,7 +19,7 @@ load-len-requires c =
 pub invariant_of-seat : goal.invariant_of-seat
 invariant_of-seat c = let s = c.args.seat.now in let h =
     after_fetch 0 c.args.offset c.load-len.result s.seat.me c.load-len.new.seat.me s.held c.load-len.ensures.2 s.bare s.tied s.within in
-    record { bare = h.0; tied = h.1; within = h.2 }
+    record { bare = h.0; tied = h.1; within = h.2; counted = record { count = h.3 ∙ s.counted.count; later = s.counted.later } }
 
 pub returns-in_err-words-clause-grows : goal.returns-in_err-words-clause-grows
 returns-in_err-words-clause-grows c = let v : View = c.args.seat.now.seat.me.0 in
@@ -57,7 +57,8 @@ load-word-requires c =
 
 pub invariant_of-seat-in-loop-i : goal.invariant_of-seat-in-loop-i
 invariant_of-seat-in-loop-i c = let s = c.loop-i.seat in let h =
-    after_fetch 0 (c.args.offset + c.loop-i.i) c.load-word.result s.seat.me c.load-word.new.seat.me s.held c.load-word.ensures.2 s.bare s.tied s.within in record { bare = h.0; tied = h.1; within = h.2 }
+    after_fetch 0 (c.args.offset + c.loop-i.i) c.load-word.result s.seat.me c.load-word.new.seat.me s.held c.load-word.ensures.2 s.bare s.tied s.within in
+    record { bare = h.0; tied = h.1; within = h.2; counted = record { count = h.3 ∙ s.counted.count; later = s.counted.later } }
 
 pub loop-i-preserved : goal.loop-i-preserved
 loop-i-preserved c =

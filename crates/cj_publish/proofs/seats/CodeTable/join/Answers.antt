@@ -1,4 +1,4 @@
-use Rattle.std.proofs.Common.{◌<◌, rules, ap, ◌∙◌, sym, subst}
+use Rattle.std.proofs.Common.{◌≡◌, ◌+◌, ◌<◌, rules, ap, ◌∙◌, sym, subst, arith}
 use Rattle.atomic_table.specs.Table.{Me}
 use Rattle.cj_publish.specs.declared.view.Key.{Key}
 use Rattle.cj_publish.specs.declared.view.View.{View}
@@ -24,5 +24,14 @@ invariant_of-seat c =
         within = each_append (λ (r : Region). r.offset < v.key.size) v.regions w.regions c.args.seat.now.within.within
             (subst (λ (k : Key). Each (λ (r : Region). r.offset < k.size) w.regions)
             (c.requires.own.1.key ∙ sym c.requires.own.0.key) c.args.other.within.within);
+      };
+      counted = record {
+        count =
+            let both : c.join_seat.new.seat.me.0.splits ≡ v.splits + w.splits = ap (λ (x : View). x.splits) e in
+            let ours = c.args.seat.now.counted.count in
+            let theirs = c.args.other.counted.count in
+            let none = c.args.other.counted.later c.requires.other in
+            omega arith;
+        later = c.args.seat.now.counted.later;
       };
     }

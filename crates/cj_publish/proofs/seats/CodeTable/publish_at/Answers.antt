@@ -24,6 +24,7 @@ invariant_of-seat c =
       bare = c.replace.ensures.same.1 ∙ s.bare;
       tied = subst (λ (x : Option Claim × Option Held). IsHeld x.0 x.1) (λ i. (sym h.0 i, sym c.take.ensures.after i)) tt;
       within = record { claim = λ d e. absurd (none_some d (sym h.0 ∙ e)); within = h.1.within s.within.within };
+      counted = record { count = h.1.splits ∙ s.counted.count; later = s.counted.later };
     }
 
 pub returns-clause-learns : goal.returns-clause-learns

@@ -49,6 +49,7 @@ invariant_of-seat c =
         claim = λ x is. let same : d' ≡ x = cc in subst (λ (y : Claim). y.offset + y.len ≤ s.seat.me.0.key.size) same (s.within.claim d r.room.1);
         within = s.within.within;
       };
+      counted = record { count = ap (λ (v : View). v.splits) e ∙ s.counted.count; later = s.counted.later };
     }
 
 pub returns-clause-same : goal.returns-clause-same
