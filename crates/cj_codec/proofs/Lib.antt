@@ -6,4 +6,4 @@ pub mod InstrFormats
 pub mod PlaceFormats
 pub mod CodeFormats
 pub mod Apart
-pub mod Kinds
+pub mod NoKinds

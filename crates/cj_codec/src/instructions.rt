@@ -217,7 +217,7 @@ fn read_kind(
 }
 
 /// An instruction.
-#[tactic(auto, using(crate::proofs::Kinds::no_instr), unfolding(crate::specs::Reading::instr_at))]
+#[tactic(auto, using(crate::proofs::NoKinds::no_instr), unfolding(crate::specs::Reading::instr_at))]
 pub fn read_instr(
     alloc: Global,
     words: &mut WordReader<'_>,

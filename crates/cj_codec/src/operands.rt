@@ -118,7 +118,7 @@ fn read_expr_kind(
 }
 
 /// An expression.
-#[tactic(auto, using(crate::proofs::Kinds::no_expr), unfolding(crate::specs::Reading::expr_at))]
+#[tactic(auto, using(crate::proofs::NoKinds::no_expr), unfolding(crate::specs::Reading::expr_at))]
 pub fn read_expr(words: &mut WordReader<'_>, limits: Limits) -> Result<Expr, ReadError>
     ensures reads { Gives result (left words.new) (expr_at limits (left words.old)) }
     ensures err { IfErr result (λ error. error ≡ read_error.NoSpelling) }
