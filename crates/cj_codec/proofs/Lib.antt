@@ -6,3 +6,4 @@ pub mod InstrFormats
 pub mod PlaceFormats
 pub mod CodeFormats
 pub mod Apart
+pub mod NoKinds

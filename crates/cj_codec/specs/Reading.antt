@@ -25,6 +25,9 @@ use Rattle.cj_draft.specs.declared.instructions.VInstr.TheVariants.{Nop, Op, Mov
 use Rattle.cj_draft.specs.declared.code.Back.{Back}
 use Rattle.cj_draft.specs.declared.code.Place.{Place}
 use Rattle.cj_draft.specs.declared.code.Code.{Code}
+use Rattle.cj_spelling.specs.declared.kinds.InstrKind.TheVariants as instr_kind
+use Rattle.cj_spelling.specs.declared.kinds.ExprKind.TheVariants as expr_kind
+use Rattle.cj_spelling.specs.Kinds.{instr_number, expr_number}
 use Rattle.cj_spelling.specs.Formats.{Reading, ◌>>=◌, made, only, two_at, three_at, four_at, each_at, counted_at, word_at, below_at, at_most_at}
 use Rattle.cj_codec.specs.declared.reader.Limits.{Limits}
 
@@ -79,20 +82,20 @@ abbrev pub two_operands_at : (Operand → Operand → Expr) → Limits → Readi
 two_operands_at f limits ws = made (λ both. f both.0 both.1) (operands_at limits ws)
 
 abbrev pub expr_by : Limits → ℕ → Reading Expr
-expr_by limits kind ws =
-    cond (kind == 0) (one_operand Copy limits ws)
-    (cond (kind == 1) (one_operand Neg limits ws)
-    (cond (kind == 2) (one_operand Eqz limits ws)
-    (cond (kind == 3) (two_operands_at Add limits ws)
-    (cond (kind == 4) (two_operands_at Sub limits ws)
-    (cond (kind == 5) (two_operands_at Mul limits ws)
-    (cond (kind == 6) (two_operands_at Div limits ws)
-    (cond (kind == 7) (two_operands_at Rem limits ws)
-    (cond (kind == 8) (two_operands_at Eq limits ws)
-    (cond (kind == 9) (two_operands_at Lt limits ws) None)))))))))
+expr_by limits number ws =
+    cond (number == expr_number expr_kind.Copy) (one_operand Copy limits ws)
+    (cond (number == expr_number expr_kind.Neg) (one_operand Neg limits ws)
+    (cond (number == expr_number expr_kind.Eqz) (one_operand Eqz limits ws)
+    (cond (number == expr_number expr_kind.Add) (two_operands_at Add limits ws)
+    (cond (number == expr_number expr_kind.Sub) (two_operands_at Sub limits ws)
+    (cond (number == expr_number expr_kind.Mul) (two_operands_at Mul limits ws)
+    (cond (number == expr_number expr_kind.Div) (two_operands_at Div limits ws)
+    (cond (number == expr_number expr_kind.Rem) (two_operands_at Rem limits ws)
+    (cond (number == expr_number expr_kind.Eq) (two_operands_at Eq limits ws)
+    (cond (number == expr_number expr_kind.Lt) (two_operands_at Lt limits ws) None)))))))))
 
 unfoldable pub expr_at : Limits → Reading Expr
-expr_at limits ws = word_at ws >>= λ kind. expr_by limits kind.0 kind.1
+expr_at limits ws = word_at ws >>= λ number. expr_by limits number.0 number.1
 
 abbrev pub guard_by : Limits → ℕ → Reading Guard
 guard_by limits kind ws =
@@ -171,21 +174,21 @@ assume_at limits ws =
     four_at Assume (counted_at (at_most_at MAX_GUARDS) (guard_at limits)) (at_most_at MAX_BACK) (point_at limits) (label_at limits) ws
 
 abbrev pub instr_by : Limits → ℕ → Reading VInstr
-instr_by limits kind ws =
-    cond (kind == 1) (made Nop (label_at limits ws))
-    (cond (kind == 2) (op_at limits ws)
-    (cond (kind == 3) (move_at limits ws)
-    (cond (kind == 4) (cond_at limits ws)
-    (cond (kind == 5) (call_at limits ws)
-    (cond (kind == 6) (made Return (operand_at limits ws))
-    (cond (kind == 7) (print_at limits ws)
-    (cond (kind == 8) (load_at limits ws)
-    (cond (kind == 9) (store_at limits ws)
-    (cond (kind == 10) (fail_at ws)
-    (cond (kind == 11) (assume_at limits ws) None))))))))))
+instr_by limits number ws =
+    cond (number == instr_number instr_kind.Nop) (made Nop (label_at limits ws))
+    (cond (number == instr_number instr_kind.Op) (op_at limits ws)
+    (cond (number == instr_number instr_kind.Move) (move_at limits ws)
+    (cond (number == instr_number instr_kind.Cond) (cond_at limits ws)
+    (cond (number == instr_number instr_kind.Call) (call_at limits ws)
+    (cond (number == instr_number instr_kind.Return) (made Return (operand_at limits ws))
+    (cond (number == instr_number instr_kind.Print) (print_at limits ws)
+    (cond (number == instr_number instr_kind.Load) (load_at limits ws)
+    (cond (number == instr_number instr_kind.Store) (store_at limits ws)
+    (cond (number == instr_number instr_kind.Fail) (fail_at ws)
+    (cond (number == instr_number instr_kind.Assume) (assume_at limits ws) None))))))))))
 
 unfoldable pub instr_at : Limits → Reading VInstr
-instr_at limits ws = word_at ws >>= λ kind. instr_by limits kind.0 kind.1
+instr_at limits ws = word_at ws >>= λ number. instr_by limits number.0 number.1
 
 -- ---- facts and backs
 

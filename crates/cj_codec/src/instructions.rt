@@ -3,6 +3,7 @@
 ghost use Rattle.std.specs.Prelude.{◌≡◌, IfErr};
 ghost use Rattle.cj_codec.specs.declared.reader.ReadError.TheVariants as read_error;
 ghost use Rattle.cj_codec.specs.Reading.{pair_at, pairs_at, has_dest, are_apart, op_at, move_at, cond_at, call_at, print_at, load_at, store_at, fail_at, assume_at, instr_by, instr_at};
+ghost use Rattle.cj_spelling.specs.Kinds.{instr_number};
 ghost use Rattle.cj_codec.specs.Answers.{left, Gives};
 
 use crate::items::{Item, read_few};
@@ -13,6 +14,7 @@ use cj_draft::limits::{MAX_BACK, MAX_CODE_REGS, MAX_GUARDS};
 use cj_draft::{Pair, Pairs, VInstr};
 use cj_ir::Reg;
 use cj_ir::limits::MAX_PARAMS;
+use cj_spelling::InstrKind;
 use std::alloc::Global;
 
 impl Item for Pair {
@@ -187,36 +189,35 @@ fn read_assume(
 // An instruction of that kind.
 fn read_kind(
     alloc: Global,
-    kind: u64,
+    kind: InstrKind,
     words: &mut WordReader<'_>,
     limits: Limits,
 ) -> Result<VInstr, ReadError>
-    ensures { Gives result (left words.new) (instr_by limits kind (left words.old)) }
+    ensures { Gives result (left words.new) (instr_by limits (instr_number kind) (left words.old)) }
 {
     match kind {
-        1 => {
+        InstrKind::Nop => {
             let next = words.label(limits)?;
             Ok(VInstr::Nop { next })
         }
-        2 => read_op(words, limits),
-        3 => read_move(alloc, words, limits),
-        4 => read_cond(words, limits),
-        5 => read_call(alloc, words, limits),
-        6 => {
+        InstrKind::Op => read_op(words, limits),
+        InstrKind::Move => read_move(alloc, words, limits),
+        InstrKind::Cond => read_cond(words, limits),
+        InstrKind::Call => read_call(alloc, words, limits),
+        InstrKind::Return => {
             let value = read_operand(words, limits)?;
             Ok(VInstr::Return { value })
         }
-        7 => read_print(words, limits),
-        8 => read_load(words, limits),
-        9 => read_store(words, limits),
-        10 => read_fail(words),
-        11 => read_assume(alloc, words, limits),
-        _ => Err(ReadError::NoSpelling),
+        InstrKind::Print => read_print(words, limits),
+        InstrKind::Load => read_load(words, limits),
+        InstrKind::Store => read_store(words, limits),
+        InstrKind::Fail => read_fail(words),
+        InstrKind::Assume => read_assume(alloc, words, limits),
     }
 }
 
 /// An instruction.
-#[tactic(auto, unfolding(crate::specs::Reading::instr_at))]
+#[tactic(auto, using(crate::proofs::NoKinds::no_instr), unfolding(crate::specs::Reading::instr_at))]
 pub fn read_instr(
     alloc: Global,
     words: &mut WordReader<'_>,
@@ -224,6 +225,9 @@ pub fn read_instr(
 ) -> Result<VInstr, ReadError>
     ensures { Gives result (left words.new) (instr_at limits (left words.old)) }
 {
-    let kind = words.next()?;
-    read_kind(alloc, kind, words, limits)
+    let number = words.next()?;
+    match InstrKind::of(number) {
+        Some(kind) => read_kind(alloc, kind, words, limits),
+        None => Err(ReadError::NoSpelling),
+    }
 }

@@ -3,11 +3,13 @@
 ghost use Rattle.std.specs.Prelude.{◌≡◌, ◌<◌, ◌≤◌, IfErr};
 ghost use Rattle.cj_codec.specs.declared.reader.ReadError.TheVariants as read_error;
 ghost use Rattle.cj_codec.specs.Reading.{operand_at, operands_at, expr_at, expr_by, guard_at};
+ghost use Rattle.cj_spelling.specs.Kinds.{expr_number};
 ghost use Rattle.cj_codec.specs.Answers.{left, Gives};
 
 use crate::items::Item;
 use crate::reader::{Limits, ReadError, WordReader};
 use cj_ir::{Expr, Guard, Operand};
+use cj_spelling::ExprKind;
 use std::alloc::Global;
 
 /// A register of the code or a constant.
@@ -58,50 +60,73 @@ fn read_operands(
     Ok((one, other))
 }
 
-// An expression of that kind with one operand.
-fn read_unary(kind: u64, words: &mut WordReader<'_>, limits: Limits) -> Result<Expr, ReadError>
-    requires { kind < 3 }
-    ensures reads { Gives result (left words.new) (expr_by limits kind (left words.old)) }
+// An expression with one operand.
+fn read_unary(kind: ExprKind, words: &mut WordReader<'_>, limits: Limits) -> Result<Expr, ReadError>
+    requires { expr_number kind < 3 }
+    ensures reads { Gives result (left words.new) (expr_by limits (expr_number kind) (left words.old)) }
     ensures err { IfErr result (λ error. error ≡ read_error.NoSpelling) }
 {
     let a = read_operand(words, limits)?;
     Ok(match kind {
-        0 => Expr::Copy(a),
-        1 => Expr::Neg(a),
+        ExprKind::Copy => Expr::Copy(a),
+        ExprKind::Neg => Expr::Neg(a),
         _ => Expr::Eqz(a),
     })
 }
 
-// An expression of that kind with two operands.
-fn read_binary(kind: u64, words: &mut WordReader<'_>, limits: Limits) -> Result<Expr, ReadError>
-    requires from { 3 ≤ kind }
-    requires to { kind < 10 }
-    ensures reads { Gives result (left words.new) (expr_by limits kind (left words.old)) }
+// An expression with two operands.
+fn read_binary(
+    kind: ExprKind,
+    words: &mut WordReader<'_>,
+    limits: Limits,
+) -> Result<Expr, ReadError>
+    requires { 3 ≤ expr_number kind }
+    ensures reads { Gives result (left words.new) (expr_by limits (expr_number kind) (left words.old)) }
     ensures err { IfErr result (λ error. error ≡ read_error.NoSpelling) }
 {
     let (a, b) = read_operands(words, limits)?;
     Ok(match kind {
-        3 => Expr::Add(a, b),
-        4 => Expr::Sub(a, b),
-        5 => Expr::Mul(a, b),
-        6 => Expr::Div(a, b),
-        7 => Expr::Rem(a, b),
-        8 => Expr::Eq(a, b),
+        ExprKind::Add => Expr::Add(a, b),
+        ExprKind::Sub => Expr::Sub(a, b),
+        ExprKind::Mul => Expr::Mul(a, b),
+        ExprKind::Div => Expr::Div(a, b),
+        ExprKind::Rem => Expr::Rem(a, b),
+        ExprKind::Eq => Expr::Eq(a, b),
         _ => Expr::Lt(a, b),
     })
 }
 
+// An expression of that kind.
+fn read_expr_kind(
+    kind: ExprKind,
+    words: &mut WordReader<'_>,
+    limits: Limits,
+) -> Result<Expr, ReadError>
+    ensures reads { Gives result (left words.new) (expr_by limits (expr_number kind) (left words.old)) }
+    ensures err { IfErr result (λ error. error ≡ read_error.NoSpelling) }
+{
+    match kind {
+        ExprKind::Copy | ExprKind::Neg | ExprKind::Eqz => read_unary(kind, words, limits),
+        ExprKind::Add
+        | ExprKind::Sub
+        | ExprKind::Mul
+        | ExprKind::Div
+        | ExprKind::Rem
+        | ExprKind::Eq
+        | ExprKind::Lt => read_binary(kind, words, limits),
+    }
+}
+
 /// An expression.
-#[tactic(auto, unfolding(crate::specs::Reading::expr_at))]
+#[tactic(auto, using(crate::proofs::NoKinds::no_expr), unfolding(crate::specs::Reading::expr_at))]
 pub fn read_expr(words: &mut WordReader<'_>, limits: Limits) -> Result<Expr, ReadError>
     ensures reads { Gives result (left words.new) (expr_at limits (left words.old)) }
     ensures err { IfErr result (λ error. error ≡ read_error.NoSpelling) }
 {
-    let kind = words.next()?;
-    match kind {
-        0..=2 => read_unary(kind, words, limits),
-        3..=9 => read_binary(kind, words, limits),
-        _ => Err(ReadError::NoSpelling),
+    let number = words.next()?;
+    match ExprKind::of(number) {
+        Some(kind) => read_expr_kind(kind, words, limits),
+        None => Err(ReadError::NoSpelling),
     }
 }
 

@@ -1,9 +1,9 @@
 -- What holds where no condition is against an Assume at the end of a path.
-use Rattle.std.proofs.Common.{◌≡◌, ◌≢◌, ℕ, zero, suc, ◌+◌, ◌-◌, ◌<◌, ◌≤◌, Bool, true, false, not, nat_lt, nat_eq, List, length, get_or, take, Option, Some, None, refl, sym, ap, ◌∙◌, subst, arith}
+use Rattle.std.proofs.Common.{◌≡◌, ◌≢◌, ℕ, zero, suc, ◌+◌, ◌-◌, ◌<◌, ◌≤◌, Bool, true, false, not, nat_lt, nat_le, nat_eq, List, length, get_or, take, Option, Some, None, refl, sym, ap, ◌∙◌, subst, arith}
 use Rattle.std.specs.Prelude.{All}
 use Rattle.std.specs.List.{list_any}
 use Rattle.std.proofs.lemmas.Option.{none-some, slice_get_within}
-use Rattle.std.proofs.lemmas.Bool.{ltb-true, eqb-true, eq-eqb, ne_eqb}
+use Rattle.std.proofs.lemmas.Bool.{ltb-true, leb-true, eqb-true, eq-eqb, ne_eqb}
 use Rattle.std.proofs.lemmas.List.{get_or-take, length-take-le}
 use Rattle.std.proofs.lemmas.List.Folds.{list_any_at}
 use Rattle.std.proofs.lemmas.List.Elements.{All-contains}
@@ -115,7 +115,7 @@ can_delay P code path gs none =
         let regs = no_offence _ _ back.1 in
         let guards = no_offence _ _ regs.1 in
         let room = has_room (fresh_row code (on_path path (length path - 1))) (length code.places + 1) guards.1 in
-        let short : turns_back code path b < 5 = ltb-true (turns_back code path b) 5 (missing_none (nat_lt (turns_back code path b) 5) _ back.0) in
+        let short : turns_back code path b ≤ 4 = leb-true (turns_back code path b) 4 (missing_none (nat_le (turns_back code path b) 4) _ back.0) in
         record {
           long = omega arith;
           begins = record { place = p; at = at; number = b; target = t; next = n; instr = is; few = omega arith };

@@ -1,4 +1,5 @@
--- The words of a code, in format 1. Every item is one word unless it says otherwise, and counts come before their items.
+-- The words of a code, in format 1. Instructions and expressions begin with the number of
+-- their kind. Every item is one word unless it says otherwise, and counts come before their items.
 use Rattle.std.specs.Prelude.{ℕ, suc, List, [], ◌∷◌, ◌++◌, length}
 use Rattle.std.specs.List.{flat_map}
 use Rattle.cj_ir.specs.Values.{value_word}
@@ -19,6 +20,9 @@ use Rattle.cj_draft.specs.declared.instructions.VInstr.TheVariants.{Nop, Op, Mov
 use Rattle.cj_draft.specs.declared.code.Back.{Back}
 use Rattle.cj_draft.specs.declared.code.Place.{Place}
 use Rattle.cj_draft.specs.declared.code.Code.{Code}
+use Rattle.cj_spelling.specs.Kinds.{instr_number, expr_number}
+use Rattle.cj_spelling.specs.declared.kinds.InstrKind.TheVariants as instr_kind
+use Rattle.cj_spelling.specs.declared.kinds.ExprKind.TheVariants as expr_kind
 
 -- the count of the items, then each item
 abbrev pub counted : {A : Type 0} → (A → List ℕ) → List A → List ℕ
@@ -32,16 +36,16 @@ abbrev pub two_operands : Operand → Operand → List ℕ
 two_operands a b = operand_words a ++ operand_words b
 
 abbrev pub expr_words : Expr → List ℕ
-expr_words (Copy a) = 0 ∷ operand_words a
-expr_words (Neg a) = 1 ∷ operand_words a
-expr_words (Eqz a) = 2 ∷ operand_words a
-expr_words (Add a b) = 3 ∷ two_operands a b
-expr_words (Sub a b) = 4 ∷ two_operands a b
-expr_words (Mul a b) = 5 ∷ two_operands a b
-expr_words (Div a b) = 6 ∷ two_operands a b
-expr_words (Rem a b) = 7 ∷ two_operands a b
-expr_words (Eq a b) = 8 ∷ two_operands a b
-expr_words (Lt a b) = 9 ∷ two_operands a b
+expr_words (Copy a) = expr_number expr_kind.Copy ∷ operand_words a
+expr_words (Neg a) = expr_number expr_kind.Neg ∷ operand_words a
+expr_words (Eqz a) = expr_number expr_kind.Eqz ∷ operand_words a
+expr_words (Add a b) = expr_number expr_kind.Add ∷ two_operands a b
+expr_words (Sub a b) = expr_number expr_kind.Sub ∷ two_operands a b
+expr_words (Mul a b) = expr_number expr_kind.Mul ∷ two_operands a b
+expr_words (Div a b) = expr_number expr_kind.Div ∷ two_operands a b
+expr_words (Rem a b) = expr_number expr_kind.Rem ∷ two_operands a b
+expr_words (Eq a b) = expr_number expr_kind.Eq ∷ two_operands a b
+expr_words (Lt a b) = expr_number expr_kind.Lt ∷ two_operands a b
 
 abbrev pub guard_words : Guard → List ℕ
 guard_words Never = 0 ∷ []
@@ -58,18 +62,18 @@ pair_words pair = pair.dest.0 ∷ operand_words pair.value
 
 -- An anchor has no spelling.
 abbrev pub instr_words : VInstr → List ℕ
-instr_words (Nop next) = 1 ∷ next.0 ∷ []
-instr_words (Op dest expr next) = 2 ∷ dest.0 ∷ (expr_words expr ++ next.0 ∷ [])
-instr_words (Move pairs next) = 3 ∷ (counted pair_words pairs ++ next.0 ∷ [])
-instr_words (Cond test then_to else_to) = 4 ∷ (operand_words test ++ then_to.0 ∷ else_to.0 ∷ [])
-instr_words (Call dest f args next) = 5 ∷ dest.0 ∷ f.0 ∷ (counted operand_words args ++ next.0 ∷ [])
-instr_words (Return value) = 6 ∷ operand_words value
-instr_words (Print value next) = 7 ∷ (operand_words value ++ next.0 ∷ [])
-instr_words (Load dest address next) = 8 ∷ dest.0 ∷ (operand_words address ++ next.0 ∷ [])
-instr_words (Store address value next) = 9 ∷ (operand_words address ++ (operand_words value ++ next.0 ∷ []))
-instr_words (Fail f label) = 10 ∷ f.0 ∷ label.0 ∷ []
+instr_words (Nop next) = instr_number instr_kind.Nop ∷ next.0 ∷ []
+instr_words (Op dest expr next) = instr_number instr_kind.Op ∷ dest.0 ∷ (expr_words expr ++ next.0 ∷ [])
+instr_words (Move pairs next) = instr_number instr_kind.Move ∷ (counted pair_words pairs ++ next.0 ∷ [])
+instr_words (Cond test then_to else_to) = instr_number instr_kind.Cond ∷ (operand_words test ++ then_to.0 ∷ else_to.0 ∷ [])
+instr_words (Call dest f args next) = instr_number instr_kind.Call ∷ dest.0 ∷ f.0 ∷ (counted operand_words args ++ next.0 ∷ [])
+instr_words (Return value) = instr_number instr_kind.Return ∷ operand_words value
+instr_words (Print value next) = instr_number instr_kind.Print ∷ (operand_words value ++ next.0 ∷ [])
+instr_words (Load dest address next) = instr_number instr_kind.Load ∷ dest.0 ∷ (operand_words address ++ next.0 ∷ [])
+instr_words (Store address value next) = instr_number instr_kind.Store ∷ (operand_words address ++ (operand_words value ++ next.0 ∷ []))
+instr_words (Fail f label) = instr_number instr_kind.Fail ∷ f.0 ∷ label.0 ∷ []
 instr_words (Assume guards back target next) =
-    11 ∷ (counted guard_words guards ++ (back ∷ (point_words target ++ next.0 ∷ [])))
+    instr_number instr_kind.Assume ∷ (counted guard_words guards ++ (back ∷ (point_words target ++ next.0 ∷ [])))
 instr_words (Anchor back target next) = []
 
 abbrev pub fact_words : Fact → List ℕ

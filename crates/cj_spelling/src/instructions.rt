@@ -1,10 +1,13 @@
 //! The words of instructions.
 
 ghost use Rattle.std.specs.Prelude.{◌≡◌, ◌++◌, ◌∷◌, [], OnOk, All};
+ghost use Rattle.cj_spelling.specs.declared.kinds.InstrKind.TheVariants as instr_kind;
+ghost use Rattle.cj_spelling.specs.Kinds.{instr_number};
 ghost use Rattle.cj_spelling.specs.Spelling.{pair_words, instr_words, expr_words, counted, guard_words, point_words, operand_words};
 ghost use Rattle.cj_spelling.specs.Values.{HasPairValue, HasExprValues, HasInstrValues, HasGuardValue, HasPointValues, HasOperandValue};
 
 use crate::counts::added;
+use crate::kinds::InstrKind;
 use crate::spelled::{Spelled, Words};
 use cj_draft::{Pair, Point, VInstr};
 use cj_ir::{Expr, FunId, Guards, Label, NoMemory, Operand, Operands, Reg};
@@ -28,10 +31,10 @@ impl Spelled for Pair {
 
 // The words of an op.
 fn write_op(dest: Reg, expr: Expr, next: Label, out: &mut Words) -> Result<(), NoMemory>
-    ensures words { OnOk result (out.new ≡ out.old ++ 2 ∷ dest.0 ∷ (expr_words expr ++ next.0 ∷ [])) }
+    ensures words { OnOk result (out.new ≡ out.old ++ instr_number instr_kind.Op ∷ dest.0 ∷ (expr_words expr ++ next.0 ∷ [])) }
     ensures values { OnOk result (HasExprValues expr) }
 {
-    out.push(2)?;
+    out.push(InstrKind::Op.number())?;
     dest.write(out)?;
     expr.write(out)?;
     next.write(out)
@@ -44,10 +47,10 @@ fn write_cond(
     else_to: Label,
     out: &mut Words,
 ) -> Result<(), NoMemory>
-    ensures words { OnOk result (out.new ≡ out.old ++ 4 ∷ (operand_words test ++ then_to.0 ∷ else_to.0 ∷ [])) }
+    ensures words { OnOk result (out.new ≡ out.old ++ instr_number instr_kind.Cond ∷ (operand_words test ++ then_to.0 ∷ else_to.0 ∷ [])) }
     ensures values { OnOk result (HasOperandValue test) }
 {
-    out.push(4)?;
+    out.push(InstrKind::Cond.number())?;
     test.write(out)?;
     then_to.write(out)?;
     else_to.write(out)
@@ -61,10 +64,10 @@ fn write_call(
     next: Label,
     out: &mut Words,
 ) -> Result<(), NoMemory>
-    ensures words { OnOk result (out.new ≡ out.old ++ 5 ∷ dest.0 ∷ function.0 ∷ (counted operand_words args.now ++ next.0 ∷ [])) }
+    ensures words { OnOk result (out.new ≡ out.old ++ instr_number instr_kind.Call ∷ dest.0 ∷ function.0 ∷ (counted operand_words args.now ++ next.0 ∷ [])) }
     ensures values { OnOk result (All HasOperandValue args.now) }
 {
-    out.push(5)?;
+    out.push(InstrKind::Call.number())?;
     dest.write(out)?;
     function.write(out)?;
     args.write(out)?;
@@ -73,10 +76,10 @@ fn write_call(
 
 // The words of a load.
 fn write_load(dest: Reg, address: Operand, next: Label, out: &mut Words) -> Result<(), NoMemory>
-    ensures words { OnOk result (out.new ≡ out.old ++ 8 ∷ dest.0 ∷ (operand_words address ++ next.0 ∷ [])) }
+    ensures words { OnOk result (out.new ≡ out.old ++ instr_number instr_kind.Load ∷ dest.0 ∷ (operand_words address ++ next.0 ∷ [])) }
     ensures values { OnOk result (HasOperandValue address) }
 {
-    out.push(8)?;
+    out.push(InstrKind::Load.number())?;
     dest.write(out)?;
     address.write(out)?;
     next.write(out)
@@ -89,11 +92,11 @@ fn write_store(
     next: Label,
     out: &mut Words,
 ) -> Result<(), NoMemory>
-    ensures words { OnOk result (out.new ≡ out.old ++ 9 ∷ (operand_words address ++ (operand_words value ++ next.0 ∷ []))) }
+    ensures words { OnOk result (out.new ≡ out.old ++ instr_number instr_kind.Store ∷ (operand_words address ++ (operand_words value ++ next.0 ∷ []))) }
     ensures address { OnOk result (HasOperandValue address) }
     ensures value { OnOk result (HasOperandValue value) }
 {
-    out.push(9)?;
+    out.push(InstrKind::Store.number())?;
     address.write(out)?;
     value.write(out)?;
     next.write(out)
@@ -107,11 +110,11 @@ fn write_assume(
     next: Label,
     out: &mut Words,
 ) -> Result<(), NoMemory>
-    ensures words { OnOk result (out.new ≡ out.old ++ 11 ∷ (counted guard_words guards.now ++ (back ∷ (point_words target.now ++ next.0 ∷ [])))) }
+    ensures words { OnOk result (out.new ≡ out.old ++ instr_number instr_kind.Assume ∷ (counted guard_words guards.now ++ (back ∷ (point_words target.now ++ next.0 ∷ [])))) }
     ensures guards { OnOk result (All HasGuardValue guards.now) }
     ensures target { OnOk result (HasPointValues target.now) }
 {
-    out.push(11)?;
+    out.push(InstrKind::Assume.number())?;
     guards.write(out)?;
     out.push(back as u64)?;
     target.write(out)?;
@@ -147,12 +150,12 @@ impl Spelled for VInstr {
     fn write(&self, out: &mut Words) -> Result<(), NoMemory> {
         match *self {
             VInstr::Nop { next } => {
-                out.push(1)?;
+                out.push(InstrKind::Nop.number())?;
                 next.write(out)
             }
             VInstr::Op { dest, expr, next } => write_op(dest, expr, next, out),
             VInstr::Move { ref pairs, next } => {
-                out.push(3)?;
+                out.push(InstrKind::Move.number())?;
                 pairs.write(out)?;
                 next.write(out)
             }
@@ -168,11 +171,11 @@ impl Spelled for VInstr {
                 next,
             } => write_call(dest, function, args, next, out),
             VInstr::Return { value } => {
-                out.push(6)?;
+                out.push(InstrKind::Return.number())?;
                 value.write(out)
             }
             VInstr::Print { value, next } => {
-                out.push(7)?;
+                out.push(InstrKind::Print.number())?;
                 value.write(out)?;
                 next.write(out)
             }
@@ -187,7 +190,7 @@ impl Spelled for VInstr {
                 next,
             } => write_store(address, value, next, out),
             VInstr::Fail { function, label } => {
-                out.push(10)?;
+                out.push(InstrKind::Fail.number())?;
                 function.write(out)?;
                 label.write(out)
             }

@@ -4,6 +4,7 @@
 pub mod codes;
 pub mod counts;
 pub mod instructions;
+pub mod kinds;
 pub mod laws;
 pub mod operands;
 pub mod places;
@@ -11,6 +12,7 @@ pub mod points;
 pub mod spelled;
 
 pub use codes::{EncodeError, MAX_WORDS, encode, word_count};
+pub use kinds::{ExprKind, InstrKind};
 pub use spelled::{Spelled, Words};
 
 #[cfg(test)]

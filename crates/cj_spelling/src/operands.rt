@@ -1,10 +1,12 @@
 //! The words of operands, expressions and guards.
 
 ghost use Rattle.std.specs.Prelude.{◌≡◌, ◌++◌, ◌∷◌, OnOk};
+ghost use Rattle.cj_spelling.specs.Kinds.{expr_number};
 ghost use Rattle.cj_spelling.specs.Spelling.{operand_words, two_operands, expr_words, guard_words};
 ghost use Rattle.cj_spelling.specs.Values.{HasOperandValue, HasTwoValues, HasExprValues, HasGuardValue};
 
 use crate::counts::added;
+use crate::kinds::ExprKind;
 use crate::spelled::{Spelled, Words};
 use cj_ir::{Expr, Guard, NoMemory, Operand};
 
@@ -32,21 +34,21 @@ impl Spelled for Operand {
 }
 
 // The words of two operands behind the number of their operator.
-fn write_two(number: u64, one: Operand, other: Operand, out: &mut Words) -> Result<(), NoMemory>
-    ensures words { OnOk result (out.new ≡ out.old ++ number ∷ two_operands one other) }
+fn write_two(kind: ExprKind, one: Operand, other: Operand, out: &mut Words) -> Result<(), NoMemory>
+    ensures words { OnOk result (out.new ≡ out.old ++ expr_number kind ∷ two_operands one other) }
     ensures values { OnOk result (HasTwoValues one other) }
 {
-    out.push(number)?;
+    out.push(kind.number())?;
     one.write(out)?;
     other.write(out)
 }
 
 // The words of an operand behind the number of its operator.
-fn write_one(number: u64, operand: Operand, out: &mut Words) -> Result<(), NoMemory>
-    ensures words { OnOk result (out.new ≡ out.old ++ number ∷ operand_words operand) }
+fn write_one(kind: ExprKind, operand: Operand, out: &mut Words) -> Result<(), NoMemory>
+    ensures words { OnOk result (out.new ≡ out.old ++ expr_number kind ∷ operand_words operand) }
     ensures values { OnOk result (HasOperandValue operand) }
 {
-    out.push(number)?;
+    out.push(kind.number())?;
     operand.write(out)
 }
 
@@ -70,16 +72,16 @@ impl Spelled for Expr {
 
     fn write(&self, out: &mut Words) -> Result<(), NoMemory> {
         match *self {
-            Expr::Copy(a) => write_one(0, a, out),
-            Expr::Neg(a) => write_one(1, a, out),
-            Expr::Eqz(a) => write_one(2, a, out),
-            Expr::Add(a, b) => write_two(3, a, b, out),
-            Expr::Sub(a, b) => write_two(4, a, b, out),
-            Expr::Mul(a, b) => write_two(5, a, b, out),
-            Expr::Div(a, b) => write_two(6, a, b, out),
-            Expr::Rem(a, b) => write_two(7, a, b, out),
-            Expr::Eq(a, b) => write_two(8, a, b, out),
-            Expr::Lt(a, b) => write_two(9, a, b, out),
+            Expr::Copy(a) => write_one(ExprKind::Copy, a, out),
+            Expr::Neg(a) => write_one(ExprKind::Neg, a, out),
+            Expr::Eqz(a) => write_one(ExprKind::Eqz, a, out),
+            Expr::Add(a, b) => write_two(ExprKind::Add, a, b, out),
+            Expr::Sub(a, b) => write_two(ExprKind::Sub, a, b, out),
+            Expr::Mul(a, b) => write_two(ExprKind::Mul, a, b, out),
+            Expr::Div(a, b) => write_two(ExprKind::Div, a, b, out),
+            Expr::Rem(a, b) => write_two(ExprKind::Rem, a, b, out),
+            Expr::Eq(a, b) => write_two(ExprKind::Eq, a, b, out),
+            Expr::Lt(a, b) => write_two(ExprKind::Lt, a, b, out),
         }
     }
 }
