@@ -1,4 +1,4 @@
-//! Two seats and the function that returns 0, and four seats in threads.
+//! Two seats, and the function that returns 0.
 
 ghost use Rattle.std.specs.Prelude.{◌≡◌, ◌+◌, ◌<◌, ◌≤◌, true, false, None, [], length, IfOk};
 ghost use Rattle.cj_draft.specs.declared.code.Code.{Code};
