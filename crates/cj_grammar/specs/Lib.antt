@@ -2,6 +2,7 @@ pub mod Grammar
 pub mod OneAhead
 pub mod Contents
 pub mod Rules
+pub mod Alternatives
 pub mod Plain
 pub mod Reading
 pub mod Readers

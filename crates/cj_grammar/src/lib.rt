@@ -19,7 +19,7 @@ ghost use Rattle.cj_grammar.specs.Plain.{InputIsPlain};
 pub use functions::pass_funs;
 pub use offences::refused;
 pub use scripts::pass_begun;
-pub use sentences::{fits_input, refusal, shape};
+pub use sentences::{Shape, fits_input, refusal};
 
 /// One token ahead decides the grammar of inputs.
 pub fn input_is_plain()

@@ -1,8 +1,9 @@
 //! Whether tokens stand as the grammar wants them, and which offence of the first class they have first.
 
-ghost use Rattle.std.specs.Prelude.{◌≡◌, OnOk, OnErr, IfErr};
+ghost use Rattle.std.specs.Prelude.{◌≡◌, List, OnOk, OnErr, IfErr};
 ghost use Rattle.cj_tokens.specs.Ends.{HasOneEnd};
 ghost use Rattle.cj_tokens.specs.Left.{left};
+ghost use Rattle.cj_tokens.specs.Lexemes.{Lexeme};
 ghost use Rattle.cj_tokens.specs.Passing.{front};
 ghost use Rattle.cj_tokens.specs.Seen.{seen};
 ghost use Rattle.cj_grammar.specs.Grammar.{IsSentence};
@@ -15,27 +16,38 @@ use crate::functions::pass_funs;
 use crate::scripts::pass_input;
 use cj_tokens::{Kind, Lexeme, Refused, Terminal, Tokens, Unfit};
 
-/// Goes past functions, up to the first token behind a function that is not `fun`. It takes no memory.
-///
-/// Refused: where the tokens do not begin with functions. It is the line and the kind of the first token with which
-/// the tokens so far begin no functions: Character or Number where that token is a lexical offence, else Syntax.
-/// The tokens stand where they stood then.
-#[tactic(auto, using(crate::proofs::ShapesLaws::funs_past, crate::proofs::ShapesLaws::funs_end, crate::proofs::ShapesLaws::funs_offence, crate::proofs::ShapesLaws::funs_none))]
-pub fn shape(tokens: &mut Tokens<'_>) -> Result<(), Refused>
-    requires { HasOneEnd (left tokens.old) }
-    ensures past { OnOk result (GoesPast (left tokens.old) (left tokens.new)) }
-    ensures end { OnOk result (HasOneEnd (left tokens.new)) }
-    ensures first { IfErr result (λ refused. IsFirstOffence funs (left tokens.old) refused) }
-    ensures none { OnErr result (¬ (HasFunctions (left tokens.old))) }
-    ensures same { OnErr result (tokens.new ≡ tokens.old) }
-{
-    let mut ahead = *tokens;
-    match pass_funs(&mut ahead) {
-        Ok(()) => {
-            *tokens = ahead;
-            Ok(())
+/// What the tokens of a text can do where there is a grammar.
+pub trait Shape {
+    // The tokens that are left.
+    ghost lexemes: { Self → List Lexeme };
+
+    /// Goes past functions, up to the first token behind a function that is not `fun`. It takes no memory.
+    ///
+    /// Refused: where the tokens do not begin with functions. It is the line and the kind of the first token with
+    /// which the tokens so far begin no functions: Character or Number where that token is a lexical offence, else
+    /// Syntax. The tokens stand where they stood then.
+    fn shape(&mut self) -> Result<(), Refused>
+        requires { HasOneEnd (lexemes self.old) }
+        ensures past { OnOk result (GoesPast (lexemes self.old) (lexemes self.new)) }
+        ensures end { OnOk result (HasOneEnd (lexemes self.new)) }
+        ensures first { IfErr result (λ refused. IsFirstOffence funs (lexemes self.old) refused) }
+        ensures none { OnErr result (¬ (HasFunctions (lexemes self.old))) }
+        ensures same { OnErr result (self.new ≡ self.old) };
+}
+
+impl Shape for Tokens<'_> {
+    ghost lexemes = { left };
+
+    #[tactic(auto, using(crate::proofs::ShapesLaws::funs_past, crate::proofs::ShapesLaws::funs_end, crate::proofs::ShapesLaws::funs_offence, crate::proofs::ShapesLaws::funs_none))]
+    fn shape(&mut self) -> Result<(), Refused> {
+        let mut ahead = *self;
+        match pass_funs(&mut ahead) {
+            Ok(()) => {
+                *self = ahead;
+                Ok(())
+            }
+            Err(Unfit) => Err(refusal(&ahead)),
         }
-        Err(Unfit) => Err(refusal(&ahead)),
     }
 }
 

@@ -1,6 +1,6 @@
 //! Texts that are inputs, and texts that are none, by hand.
 
-use crate::sentences::{fits_input, shape};
+use crate::sentences::{Shape, fits_input};
 use cj_tokens::{Kind, Refused, Terminal, Tokens};
 
 const PROGRAM: &str = "fun main(n; r) {\n1: op r = n + 1 -> 2\n2: print r -> 3\n3: return r\n}\n";
@@ -50,7 +50,7 @@ fn functions_in_front(rt: HostRuntime) {
     ];
     for (text, wanted, next) in rows {
         let mut tokens = Tokens::of(text.as_bytes());
-        assert_eq!(rt; shape(&mut tokens), wanted, "of {text:?}");
+        assert_eq!(rt; tokens.shape(), wanted, "of {text:?}");
         assert_eq!(rt; tokens.peek(), next, "behind {text:?}");
     }
 }

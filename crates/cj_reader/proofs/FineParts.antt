@@ -15,6 +15,7 @@ use Rattle.cj_tokens.specs.declared.terminal.Terminal.TheVariants as terminal
 use Rattle.cj_tokens.specs.declared.refusal.Kind.TheVariants.{TooMany, Range, NoRegister, NoLabel, Arguments}
 use Rattle.cj_grammar.specs.Grammar.{Leaf, Tree, opt}
 use Rattle.cj_grammar.specs.Rules.{operand, binary, expr, target, operands, more_operands, nop_instr, op_instr, cond_instr, call_instr, return_instr, print_instr, load_instr, store_instr, fail_instr, instr}
+use Rattle.cj_grammar.specs.Alternatives.{of_instr, of_binary}
 use Rattle.cj_grammar.specs.Reading.{offends_if, missing}
 use Rattle.cj_reader.specs.declared.scope.Callee.{Callee}
 use Rattle.cj_reader.specs.Scopes.{Scope, name_place}
@@ -53,7 +54,7 @@ operand_fine s (inl name) h = register_fine s name.token h
 operand_fine s (inr number) h = tt
 
 binary_fine : (count : ℕ) (mark : Tree binary) (a b : Operand) → IsOperandWithin count a → IsOperandWithin count b → IsExprWithin count (binary_of mark a b)
-unfolding binary binary_of
+unfolding binary of_binary binary_of
 binary_fine count (inl m) a b p q = (p, q)
 binary_fine count (inr (inl m)) a b p q = (p, q)
 binary_fine count (inr (inr (inl m))) a b p q = (p, q)
@@ -168,7 +169,7 @@ module _ (s : Scope) (functions : List Function) (count : ℕ) (b : Bounded s co
   fail_fine (word, text) = tt
 
   pub instr_fine : (t : Tree instr) → instr_offences s t ≡ [] → IsInstrFine functions (length s.registers) count (instr_of s t)
-  unfolding instr instr_offences instr_of
+  unfolding instr of_instr instr_offences instr_of
   instr_fine (inl t) h = nop_fine t h
   instr_fine (inr (inl t)) h = op_fine t h
   instr_fine (inr (inr (inl t))) h = cond_fine t h

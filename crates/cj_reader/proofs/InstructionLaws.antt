@@ -11,6 +11,7 @@ use Rattle.cj_tokens.specs.declared.refusal.Refused.{Refused}
 use Rattle.cj_grammar.specs.Grammar.{Leaf, Tree, leaves, opt}
 use Rattle.cj_grammar.specs.OneAhead.{◌>>=◌}
 use Rattle.cj_grammar.specs.Rules.{operand, expr, target, operands, more_operands, nop_instr, op_instr, cond_instr, call_instr, return_instr, print_instr, load_instr, store_instr, fail_instr, instr}
+use Rattle.cj_grammar.specs.Alternatives.{of_instr}
 use Rattle.cj_grammar.specs.Reading.{offends_if, each_offends}
 use Rattle.cj_grammar.specs.Readers.{each_at, reads}
 use Rattle.cj_grammar.proofs.ReadsLaws.{reads_then, reads_last, each_reads}
@@ -242,7 +243,7 @@ unfolding fail_instr front
 fail_word (word, t) ts = leaf_number word
 
 pub instr_reads : (s : Scope) (t : Tree instr) (ts : List Lexeme) → instr_at s (leaves instr t ++ ts) ≡ reads (instr_offences s t) (instr_of s t) ts
-unfolding instr instr_at instr_offences instr_of
+unfolding instr of_instr instr_at instr_offences instr_of
 instr_reads s (inl t) ts = rw (nop_word t ts) (nop_reads s t ts)
 instr_reads s (inr (inl t)) ts = rw (op_word t ts) (op_reads s t ts)
 instr_reads s (inr (inr (inl t))) ts = rw (cond_word t ts) (cond_reads s t ts)

@@ -18,3 +18,4 @@ pub mod Differing
 pub mod FineNames
 pub mod FineFunctions
 pub mod FineProgram
+pub mod Behind

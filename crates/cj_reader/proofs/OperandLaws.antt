@@ -13,6 +13,7 @@ use Rattle.cj_tokens.specs.declared.refusal.Kind.TheVariants.{TooMany, Range, No
 use Rattle.cj_grammar.specs.Grammar.{Leaf, Tree, leaves}
 use Rattle.cj_grammar.specs.OneAhead.{◌>>=◌}
 use Rattle.cj_grammar.specs.Rules.{operand, binary, expr, target}
+use Rattle.cj_grammar.specs.Alternatives.{of_binary}
 use Rattle.cj_grammar.specs.Reading.{missing}
 use Rattle.cj_grammar.specs.Readers.{reads}
 use Rattle.cj_grammar.proofs.ReadsLaws.{reads_then, reads_last}
@@ -105,7 +106,7 @@ target_ends (arrow, number) ts = no_operator arrow.token.terminal arrow.is
 
 -- behind a first operand stands a mark with an operand, or the arrow of the target
 mark_reads : (s : Scope) (left : Operand) (mark : Tree binary) (ts : List Lexeme) → rest_at s left (leaves binary mark ++ ts) (operator_of (front (leaves binary mark ++ ts)).terminal) ≡ (operand_at s ts >>= λ right. Ok (binary_of mark left right.0, right.1))
-unfolding binary binary_of front behind
+unfolding binary of_binary binary_of front behind
 mark_reads s left (inl m) ts = rw (is_plus m.token.terminal m.is) refl
 mark_reads s left (inr (inl m)) ts = rw (is_minus m.token.terminal m.is) refl
 mark_reads s left (inr (inr (inl m))) ts = rw (is_star m.token.terminal m.is) refl

@@ -1,6 +1,5 @@
 -- Instructions: what they mean, and the offences of their tokens.
 use Rattle.std.specs.Prelude.{ℕ, List, [], ◌∷◌, ◌++◌, length, not, Option, None, Some, map, flat_map, suc, nat_lt, ◌==◌, unwrap_or, option_map}
-use Rattle.std.proofs.Common.{inl, inr}
 use Rattle.cj_ir.specs.declared.language.FunId.{FunId}
 use Rattle.cj_ir.specs.declared.language.Operand.{Operand}
 use Rattle.cj_ir.specs.declared.language.Instr.{Instr}
@@ -10,6 +9,7 @@ use Rattle.cj_tokens.specs.declared.refusal.Kind.TheVariants.{TooMany, NoFunctio
 use Rattle.cj_tokens.specs.declared.refusal.Refused.{Refused}
 use Rattle.cj_grammar.specs.Grammar.{Tree, opt}
 use Rattle.cj_grammar.specs.Rules.{operands, more_operands, nop_instr, op_instr, cond_instr, call_instr, return_instr, print_instr, load_instr, store_instr, fail_instr, instr}
+use Rattle.cj_grammar.specs.Alternatives.{of_instr}
 use Rattle.cj_grammar.specs.Reading.{offence, offends_if}
 use Rattle.cj_reader.specs.declared.scope.Callee.{Callee}
 use Rattle.cj_reader.specs.Scopes.{Scope}
@@ -136,25 +136,9 @@ unfolding fail_instr
 fail_of (word, text) = Fail text.token.text
 
 unfoldable pub instr_offences : Scope → Tree instr → List Refused
-unfolding instr
-instr_offences s (inl t) = nop_offences s t
-instr_offences s (inr (inl t)) = op_offences s t
-instr_offences s (inr (inr (inl t))) = cond_offences s t
-instr_offences s (inr (inr (inr (inl t)))) = call_offences s t
-instr_offences s (inr (inr (inr (inr (inl t))))) = return_offences s t
-instr_offences s (inr (inr (inr (inr (inr (inl t)))))) = print_offences s t
-instr_offences s (inr (inr (inr (inr (inr (inr (inl t))))))) = load_offences s t
-instr_offences s (inr (inr (inr (inr (inr (inr (inr (inl t)))))))) = store_offences s t
-instr_offences s (inr (inr (inr (inr (inr (inr (inr (inr t)))))))) = fail_offences t
+instr_offences s =
+    of_instr (record { nop = nop_offences s; op = op_offences s; cond = cond_offences s; call = call_offences s; return = return_offences s; print = print_offences s; load = load_offences s; store = store_offences s; fail = fail_offences })
 
 unfoldable pub instr_of : Scope → Tree instr → Instr
-unfolding instr
-instr_of s (inl t) = nop_of s t
-instr_of s (inr (inl t)) = op_of s t
-instr_of s (inr (inr (inl t))) = cond_of s t
-instr_of s (inr (inr (inr (inl t)))) = call_of s t
-instr_of s (inr (inr (inr (inr (inl t))))) = return_of s t
-instr_of s (inr (inr (inr (inr (inr (inl t)))))) = print_of s t
-instr_of s (inr (inr (inr (inr (inr (inr (inl t))))))) = load_of s t
-instr_of s (inr (inr (inr (inr (inr (inr (inr (inl t)))))))) = store_of s t
-instr_of s (inr (inr (inr (inr (inr (inr (inr (inr t)))))))) = fail_of t
+instr_of s =
+    of_instr (record { nop = nop_of s; op = op_of s; cond = cond_of s; call = call_of s; return = return_of s; print = print_of s; load = load_of s; store = store_of s; fail = fail_of })

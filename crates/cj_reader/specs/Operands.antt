@@ -12,6 +12,7 @@ use Rattle.cj_tokens.specs.declared.refusal.Kind.TheVariants.{TooMany, Range, No
 use Rattle.cj_tokens.specs.declared.refusal.Refused.{Refused}
 use Rattle.cj_grammar.specs.Grammar.{Tree}
 use Rattle.cj_grammar.specs.Rules.{operand, binary, expr, target}
+use Rattle.cj_grammar.specs.Alternatives.{of_binary}
 use Rattle.cj_grammar.specs.Reading.{offends_if, missing}
 use Rattle.cj_reader.specs.Scopes.{Scope, name_place}
 
@@ -56,16 +57,9 @@ unfolding operand
 operand_of s (inl name) = operands.Reg (register_of s name.token)
 operand_of s (inr number) = operands.Const number.token.number
 
--- in the order of the grammar: + - * / % = <
 unfoldable pub binary_of : Tree binary → Operand → Operand → Expr
-unfolding binary
-binary_of (inl plus) = Add
-binary_of (inr (inl minus)) = Sub
-binary_of (inr (inr (inl star))) = Mul
-binary_of (inr (inr (inr (inl slash)))) = Div
-binary_of (inr (inr (inr (inr (inl percent))))) = Rem
-binary_of (inr (inr (inr (inr (inr (inl equals)))))) = Eq
-binary_of (inr (inr (inr (inr (inr (inr less)))))) = Lt
+binary_of =
+    of_binary (record { plus = Add; minus = Sub; star = Mul; slash = Div; percent = Rem; equals = Eq; less = Lt })
 
 unfoldable pub expr_offences : Scope → Tree expr → List Refused
 unfolding expr

@@ -1,6 +1,7 @@
 //! Programs.
 
 ghost use Rattle.std.specs.Prelude.{◌≡◌, List, OnErr};
+ghost use Rattle.cj_tokens.specs.Ends.{HasOneEnd};
 ghost use Rattle.cj_tokens.specs.Left.{left};
 ghost use Rattle.cj_tokens.specs.Lexemes.{Lexeme};
 ghost use Rattle.cj_grammar.specs.Shapes.{GoesPast, HasFunctions};
@@ -10,7 +11,7 @@ ghost use Rattle.cj_reader.specs.Reading.{program_at};
 
 use crate::functions::read_functions;
 use crate::prescan::scan_functions;
-use cj_ir::{CheckError, Checked, Program, check};
+use cj_ir::{Checked, Program};
 use cj_tokens::{ParseError, Tokens};
 use std::alloc::Global;
 
@@ -23,12 +24,13 @@ fn read_all(alloc: Global, tokens: &mut Tokens<'_>) -> Result<Program, ParseErro
     Ok(Program { functions })
 }
 
-/// The program of the functions that are next, and goes past them. Refused: the first token of theirs, from the
+/// The program of the functions that are next, and goes past them. It is well-formed as it stands. Refused: the first token of theirs, from the
 /// left, that carries an offence of the second class, with the highest of its offences; the tokens stay as they
 /// were.
 pub fn read_program(alloc: Global, tokens: &mut Tokens<'_>) -> Result<Checked, ParseError>
     requires { HasFunctions (left tokens.old) }
     ensures read { (rest : List Lexeme) (past : GoesPast (left tokens.old) rest) → Gives result (left tokens.new) (reads (program_offences past.tree) (program_of past.tree) rest) }
+    ensures end { HasOneEnd (left tokens.old) → HasOneEnd (left tokens.new) }
     ensures same { OnErr result (tokens.new ≡ tokens.old) }
 {
     let mut ahead = *tokens;
@@ -36,12 +38,6 @@ pub fn read_program(alloc: Global, tokens: &mut Tokens<'_>) -> Result<Checked, P
         Ok(program) => program,
         Err(error) => return Err(error),
     };
-    match check(program) {
-        Ok(checked) => {
-            *tokens = ahead;
-            Ok(checked)
-        }
-        Err(CheckError::NoMemory) => Err(ParseError::NoMemory),
-        Err(CheckError::BadProgram { .. }) => unreachable!(),
-    }
+    *tokens = ahead;
+    Ok(Checked::adopt(program))
 }

@@ -1,7 +1,7 @@
 //! Programs, and texts with one offence of the second class or several, by hand.
 
 use crate::program::read_program;
-use cj_grammar::shape;
+use cj_grammar::Shape;
 use cj_ir::{Checked, FunId, Function, Instr, Label, Operand, Reg};
 use cj_tokens::{Kind, ParseError, Refused, Terminal, Tokens};
 use std::alloc::Global;
@@ -130,7 +130,7 @@ const CALLER: &str =
 fn outcome(alloc: Global, text: &str) -> Result<(), ParseError> {
     let mut tokens = Tokens::of(text.as_bytes());
     let mut ahead = tokens;
-    if let Err(refused) = shape(&mut ahead) {
+    if let Err(refused) = ahead.shape() {
         return Err(ParseError::Refused(refused));
     }
     let _checked = read_program(alloc, &mut tokens)?;
@@ -258,7 +258,7 @@ fn is_read(read: &Result<Checked, ParseError>) -> bool {
 fn what_is_read(rt: HostRuntime) {
     let mut tokens = Tokens::of(CALLER.as_bytes());
     let mut ahead = tokens;
-    assert_eq!(rt; shape(&mut ahead), Ok(()));
+    assert_eq!(rt; ahead.shape(), Ok(()));
     assert!(rt; is_read(&read_program(rt.alloc(), &mut tokens)));
     assert_eq!(rt; tokens.peek(), Terminal::Calls);
 }

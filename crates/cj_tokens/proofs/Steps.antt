@@ -1,5 +1,9 @@
 -- What is left once the next token is taken, or given.
-use Rattle.std.proofs.Common.{◌≡◌, ℕ, Bool, true, false, cond, List, [], ◌∷◌, map, drop, Ok, Err, refl, nat_eq}
+use Rattle.std.proofs.Common.{◌≡◌, ℕ, Bool, true, false, cond, List, [], ◌∷◌, ◌++◌, map, drop, Ok, Err, refl, sym, ◌∙◌, nat_eq}
+use Rattle.std.proofs.lemmas.Bool.{and_parts}
+use Rattle.std.specs.Prelude.{not}
+use Rattle.std.specs.List.{list_all}
+use Rattle.cj_tokens.specs.Ends.{HasOneEnd}
 use Rattle.cj_tokens.specs.Lexemes.{Lexeme, Sign, fits, is_terminal, number_of}
 use Rattle.cj_tokens.specs.Passing.{front, behind, pass}
 use Rattle.cj_tokens.specs.Scan.{Item, items, items_from, lexeme_in}
@@ -62,3 +66,24 @@ left_past false bytes t u e = rw e (lexemes_past bytes t)
 pub next_is : (bytes : List ℕ) (t : Item) → next_of (items_from bytes t) ≡ given_as t.lexeme.terminal t
 unfolding items_from next_of
 next_is bytes t = refl
+
+-- the end stands last behind the next token too
+behind_first : (t : Lexeme) (ts body : List Lexeme) (last : Lexeme) →
+    t ∷ ts ≡ body ++ last ∷ [] → is_terminal End last ≡ true → list_all (λ u. not (is_terminal End u)) body ≡ true →
+    is_terminal End t ≡ false → HasOneEnd ts
+behind_first t ts [] last a e o n =
+    let i : t ≡ last = cc in
+    let q : is_terminal End t ≡ true = rw i e in
+    absurd (let no : true ≡ false = sym q ∙ n in cc)
+behind_first t ts (b ∷ body) last a e o n =
+    let r : ts ≡ body ++ last ∷ [] = cc in
+    record { body = body; last = last; all = r; is_end = e; once = (and_parts (not (is_terminal End b)) (list_all (λ u. not (is_terminal End u)) body) o).1 }
+
+pub past_end : (ts : List Lexeme) → HasOneEnd ts → HasOneEnd (past_lexemes ts)
+unfolding past_lexemes
+past_end [] h = h
+past_end (t ∷ ts) h = go (is_passed t.terminal) refl
+  where
+    go : (c : Bool) → is_passed t.terminal ≡ c → HasOneEnd (cond c ts (t ∷ ts))
+    go true e = behind_first t ts h.body h.last h.all h.is_end h.once (passed_no_end t.terminal e)
+    go false e = h

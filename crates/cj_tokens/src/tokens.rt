@@ -134,6 +134,7 @@ impl<'a> Tokens<'a> {
         ensures answer { result ≡ next_of (stream self.old) }
         ensures stream { stream self.new ≡ past_items (stream self.old) }
         ensures left { left self.new ≡ past_lexemes (left self.old) }
+        ensures end { HasOneEnd (left self.old) → HasOneEnd (left self.new) }
         ensures same { OnErr result (self.new ≡ self.old) }
     {
         let answer = given(&self.ahead);

@@ -1,7 +1,8 @@
-use Rattle.std.proofs.Common.{◌∙◌, sym}
+use Rattle.std.proofs.Common.{◌∙◌, sym, subst}
+use Rattle.cj_tokens.specs.Ends.{HasOneEnd}
 use Rattle.cj_tokens.specs.Left.{left, stream}
 use Rattle.cj_tokens.specs.Seen.{placed}
-use Rattle.cj_tokens.proofs.Steps.{given_passed, given_stays, left_past, next_is}
+use Rattle.cj_tokens.proofs.Steps.{given_passed, given_stays, left_past, next_is, past_end}
 use Rattle.cj_tokens.proofs.tokens.Tokens.next.Goals as goal
 
 pub returns-then-is_passed-clause-answer : goal.returns-then-is_passed-clause-answer
@@ -27,3 +28,11 @@ returns-else-is_passed-clause-stream c = given_stays c.args.self.now.bytes.now (
 pub returns-else-is_passed-clause-left : goal.returns-else-is_passed-clause-left
 unfolding left stream
 returns-else-is_passed-clause-left c = left_past c.args.self.now.is_past_end c.args.self.now.bytes.now (placed c.args.self.now.ahead) (placed c.args.self.now.ahead) (given_stays c.args.self.now.bytes.now (placed c.args.self.now.ahead) (sym c.is_passed.ensures ∙ c.if-is_passed.false))
+
+pub returns-then-is_passed-clause-end : goal.returns-then-is_passed-clause-end
+returns-then-is_passed-clause-end c = λ h.
+    subst HasOneEnd (sym (returns-then-is_passed-clause-left c)) (past_end (left c.args.self.now) h)
+
+pub returns-else-is_passed-clause-end : goal.returns-else-is_passed-clause-end
+returns-else-is_passed-clause-end c = λ h.
+    subst HasOneEnd (sym (returns-else-is_passed-clause-left c)) (past_end (left c.args.self.now) h)
