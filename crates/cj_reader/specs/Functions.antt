@@ -15,6 +15,7 @@ use Rattle.cj_grammar.specs.Reading.{offends_if, each_offends}
 use Rattle.cj_reader.specs.Scopes.{Scope, Head, scope_of}
 use Rattle.cj_reader.specs.Operands.{is_long, is_line_number}
 use Rattle.cj_reader.specs.Instructions.{instr_offences, instr_of}
+use Rattle.cj_ir.specs.declared.limits.TheConstants.{MAX_FUNCTIONS, MAX_LABELS, MAX_PARAMS, MAX_REGS}
 
 -- ---- names
 
@@ -60,10 +61,10 @@ head_of t = record { name = (function_name t).text; params = length (param_token
 abbrev pub registers_of : Tree head → List (List ℕ)
 registers_of t = texts_of (param_tokens t) ++ texts_of (other_tokens t)
 
--- the function's NAME, behind the names of the functions before it; at most 8 parameters; at most 32 registers
+-- the function's NAME, behind the names of the functions before it, its parameters and its registers: not too many of each
 abbrev pub head_offences : List (List ℕ) → Tree head → List Refused
 head_offences earlier t =
-    name_offences 64 earlier (function_name t) ++ (names_offences 8 [] (param_tokens t) ++ names_offences 32 (texts_of (param_tokens t)) (other_tokens t))
+    name_offences MAX_FUNCTIONS earlier (function_name t) ++ (names_offences MAX_PARAMS [] (param_tokens t) ++ names_offences MAX_REGS (texts_of (param_tokens t)) (other_tokens t))
 
 -- ---- lines
 
@@ -74,7 +75,7 @@ line_number (number, (colon, i)) = number.token
 -- a line's NUM, behind the numbers of the lines before it
 abbrev pub number_offences : List ℤ → Lexeme → List Refused
 number_offences earlier t =
-    offends_if (nat_le 256 (length earlier)) t TooMany ++ (offends_if (not (is_line_number t.number)) t Range ++ offends_if (list_any (λ other. int_eq other t.number) earlier) t LabelTwice)
+    offends_if (nat_le MAX_LABELS (length earlier)) t TooMany ++ (offends_if (not (is_line_number t.number)) t Range ++ offends_if (list_any (λ other. int_eq other t.number) earlier) t LabelTwice)
 
 unfoldable pub line_offences : Scope → List ℤ → Tree line → List Refused
 unfolding line

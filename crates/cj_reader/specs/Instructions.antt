@@ -14,6 +14,7 @@ use Rattle.cj_grammar.specs.Reading.{offence, offends_if}
 use Rattle.cj_reader.specs.declared.scope.Callee.{Callee}
 use Rattle.cj_reader.specs.Scopes.{Scope}
 use Rattle.cj_reader.specs.Operands.{is_long, register_offences, register_of, label_offences, label_of, target_offences, target_of, operand_offences, operand_of, expr_offences, expr_of}
+use Rattle.cj_ir.specs.declared.limits.TheConstants.{MAX_TEXT}
 
 -- ---- calls
 
@@ -47,9 +48,9 @@ callee_of s t = unwrap_or (option_map (λ callee. callee.function) (s.function_a
 
 -- ---- texts
 
--- a TEXT of more than 64 bytes
+-- a TEXT of too many bytes
 abbrev pub text_offences : Lexeme → List Refused
-text_offences t = offends_if (nat_lt 64 (length t.text)) t TooMany
+text_offences t = offends_if (nat_lt MAX_TEXT (length t.text)) t TooMany
 
 -- ---- instructions, their parts in the order of the text
 

@@ -15,10 +15,11 @@ use Rattle.cj_grammar.specs.Rules.{operand, binary, expr, target}
 use Rattle.cj_grammar.specs.Alternatives.{of_binary}
 use Rattle.cj_grammar.specs.Reading.{offends_if, missing}
 use Rattle.cj_reader.specs.Scopes.{Scope, name_place}
+use Rattle.cj_ir.specs.declared.limits.TheConstants.{MAX_LABEL_NAME, MAX_NAME}
 
--- a NAME of more than 32 bytes
+-- a NAME of too many bytes
 abbrev pub is_long : Lexeme → Bool
-is_long t = nat_lt 32 (length t.text)
+is_long t = nat_lt MAX_NAME (length t.text)
 
 -- a NAME as a destination or an operand
 abbrev pub register_offences : Scope → Lexeme → List Refused
@@ -29,7 +30,7 @@ register_of s t = record { 0 = unwrap_or (name_place s.registers t.text) 0 }
 
 -- numbers of lines are from 0 to 65,535
 abbrev pub is_line_number : ℤ → Bool
-is_line_number (pos n) = nat_le n 65535
+is_line_number (pos n) = nat_le n MAX_LABEL_NAME
 is_line_number (negsuc n) = false
 
 -- a NUM as a target

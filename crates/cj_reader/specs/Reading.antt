@@ -33,6 +33,7 @@ use Rattle.cj_reader.specs.Scopes.{Scope, name_place, number_place, first_named}
 use Rattle.cj_reader.specs.Operands.{is_long, is_line_number}
 use Rattle.cj_reader.specs.Functions.{natural}
 use Rattle.cj_reader.specs.Prescans.{count_at, numbers_at, heads_at}
+use Rattle.cj_ir.specs.declared.limits.TheConstants.{MAX_FUNCTIONS, MAX_REGS, MAX_LABELS, MAX_TEXT}
 
 -- nothing against a token, or an offence
 abbrev pub refuse_if : Bool → Lexeme → Kind → Result (Unit {0}) Refused
@@ -165,7 +166,7 @@ store_at s ts =
 
 unfoldable pub fail_at : List Lexeme → Read Instr
 fail_at ts =
-    refuse_if (nat_lt 64 (length (front ts).text)) (front ts) TooMany >>= λ u. text_at (front ts) >>= λ text. Ok (instrs.Fail text, behind ts)
+    refuse_if (nat_lt MAX_TEXT (length (front ts).text)) (front ts) TooMany >>= λ u. text_at (front ts) >>= λ text. Ok (instrs.Fail text, behind ts)
 
 unfoldable pub instr_at : Scope → List Lexeme → Read Instr
 instr_at s ts =
@@ -189,7 +190,7 @@ is_before n (Some place) = nat_lt place n
 -- the number of the n-th line
 unfoldable pub line_number_at : Scope → ℕ → Lexeme → Result ℕ Refused
 line_number_at s n t =
-    refuse_if (nat_le 256 n) t TooMany >>= λ u. refuse_if (not (is_line_number t.number)) t Range >>= λ u. refuse_if (is_before n (s.line_at t.number)) t LabelTwice >>= λ u. Ok (natural t.number)
+    refuse_if (nat_le MAX_LABELS n) t TooMany >>= λ u. refuse_if (not (is_line_number t.number)) t Range >>= λ u. refuse_if (is_before n (s.line_at t.number)) t LabelTwice >>= λ u. Ok (natural t.number)
 
 unfoldable pub line_at : Scope → List Line → List Lexeme → Read Line
 line_at s earlier ts =
@@ -214,7 +215,7 @@ names_at limit (suc n) earlier ts =
 -- the registers behind the parameters
 unfoldable pub others_at : List (List ℕ) → List Lexeme → Read (List (List ℕ))
 others_at params ts =
-    cond (is_terminal terminal.Semicolon (front ts)) (names_at 32 (count_at (behind ts)) params (behind ts)) (Ok (params, ts))
+    cond (is_terminal terminal.Semicolon (front ts)) (names_at MAX_REGS (count_at (behind ts)) params (behind ts)) (Ok (params, ts))
 
 -- ---- functions
 
@@ -234,7 +235,7 @@ is_earlier n (Some callee) = nat_lt callee.function.0 n
 -- the name of the n-th function
 unfoldable pub function_name_at : Known → ℕ → Lexeme → Result (List ℕ) Refused
 function_name_at known n t =
-    refuse_if (is_long t || nat_le 64 n) t TooMany >>= λ u. refuse_if (is_earlier n (known t.text)) t NameTwice >>= λ u. word_at t
+    refuse_if (is_long t || nat_le MAX_FUNCTIONS n) t TooMany >>= λ u. refuse_if (is_earlier n (known t.text)) t NameTwice >>= λ u. word_at t
 
 -- as many lines as there are numbers, and the `}`
 unfoldable pub body_at : Scope → ℕ → List Lexeme → Read (List Line)

@@ -13,6 +13,7 @@ use crate::operands::read_operand;
 use crate::refusals::refuse_if;
 use crate::scope::Scope;
 use cj_grammar::refused;
+use cj_ir::limits::MAX_NAME;
 use cj_ir::{FunId, Operands};
 use cj_tokens::{Kind, Lexeme, ParseError, Tokens};
 use std::alloc::Global;
@@ -29,7 +30,7 @@ pub struct Called {
 fn callee(scope: Scope<'_>, token: Lexeme<'_>, count: u32) -> Result<FunId, ParseError>
     ensures { Found result (callee_at (scope_in scope.entry) (seen token.entry) count) }
 {
-    refuse_if(token.text.len() > 32, token, Kind::TooMany)?;
+    refuse_if(token.text.len() > MAX_NAME, token, Kind::TooMany)?;
     match scope.functions.callee(token.text) {
         None => Err(refused(token, Kind::NoFunction)),
         Some(callee) if callee.params == count => Ok(callee.function),

@@ -16,6 +16,7 @@ use crate::prescan::scan_lines;
 use crate::refusals::refuse_if;
 use crate::scope::{Callee, Functions, Scope};
 use crate::words::{is_too_many, word};
+use cj_ir::limits::{MAX_FUNCTIONS, MAX_REGS};
 use cj_ir::{Function, Lines, Name};
 use cj_tokens::{Kind, Lexeme, ParseError, Tokens};
 use std::alloc::Global;
@@ -41,7 +42,7 @@ fn function_name(
     requires { token.terminal ≡ terminal.Name → is_free_word token.text.now ≡ true }
     ensures { Found result (function_name_at (function_in functions.now) at (seen token.entry)) }
 {
-    let too_many = is_too_many(token, 64, at);
+    let too_many = is_too_many(token, MAX_FUNCTIONS, at);
     refuse_if(too_many, token, Kind::TooMany)?;
     let found = functions.callee(token.text);
     refuse_if(is_earlier(at, found), token, Kind::NameTwice)?;
@@ -56,7 +57,7 @@ fn read_code(
     functions: &Functions<'_>,
     registers: &[Name],
 ) -> Result<Lines, ParseError>
-    requires { length registers.now ≤ 32 }
+    requires { length registers.now ≤ MAX_REGS }
     ensures { Gives result (left tokens.new) (code_at (function_in functions.now) registers.now (left tokens.old)) }
 {
     let labels = scan_lines(alloc, *tokens)?;

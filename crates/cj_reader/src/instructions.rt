@@ -12,6 +12,7 @@ use crate::refusals::refuse_if;
 use crate::scope::Scope;
 use crate::words::text;
 use cj_ir::Instr;
+use cj_ir::limits::MAX_TEXT;
 use cj_tokens::{Kind, ParseError, Terminal, Tokens};
 use std::alloc::Global;
 
@@ -113,7 +114,7 @@ fn read_fail(alloc: Global, tokens: &mut Tokens<'_>) -> Result<Instr, ParseError
     ensures { Gives result (left tokens.new) (fail_at (left tokens.old)) }
 {
     let token = tokens.take();
-    refuse_if(token.text.len() > 64, token, Kind::TooMany)?;
+    refuse_if(token.text.len() > MAX_TEXT, token, Kind::TooMany)?;
     let text = text(alloc, token)?;
     Ok(Instr::Fail { text })
 }

@@ -12,6 +12,7 @@ use crate::memory::remembered;
 use crate::operands::is_line_number;
 use crate::refusals::refuse_if;
 use crate::scope::Scope;
+use cj_ir::limits::MAX_LABELS;
 use cj_ir::{Line, Lines};
 use cj_tokens::{Kind, Lexeme, ParseError, Tokens};
 use std::alloc::Global;
@@ -31,7 +32,7 @@ fn is_before(at: usize, found: Option<u32>) -> bool
 fn line_number(scope: Scope<'_>, at: usize, token: Lexeme<'_>) -> Result<u32, ParseError>
     ensures { Found result (line_number_at (scope_in scope.entry) at (seen token.entry)) }
 {
-    refuse_if(at >= 256, token, Kind::TooMany)?;
+    refuse_if(at >= MAX_LABELS, token, Kind::TooMany)?;
     refuse_if(!is_line_number(token.number), token, Kind::Range)?;
     let found = scope.labels.place(token.number);
     refuse_if(is_before(at, found), token, Kind::LabelTwice)?;

@@ -12,6 +12,7 @@ use crate::counts::count_items;
 use crate::memory::remembered;
 use crate::refusals::refuse_if;
 use crate::words::{is_too_many, word};
+use cj_ir::limits::MAX_REGS;
 use cj_ir::{Name, Names};
 use cj_tokens::{Kind, ParseError, Terminal, Tokens};
 use std::alloc::Global;
@@ -116,14 +117,14 @@ pub fn read_others(
     tokens: &mut Tokens<'_>,
     params: Names,
 ) -> Result<Names, ParseError>
-    requires { length params ≤ 32 }
+    requires { length params ≤ MAX_REGS }
     ensures reads { Gives result (left tokens.new) (others_at params (left tokens.old)) }
-    ensures few { IfOk result (λ all. length all ≤ 32) }
+    ensures few { IfOk result (λ all. length all ≤ MAX_REGS) }
 {
     if tokens.is_at(Terminal::Semicolon) {
         let _mark = tokens.take();
         let count = count_items(*tokens)?;
-        read_names(alloc, tokens, 32, count, params)
+        read_names(alloc, tokens, MAX_REGS, count, params)
     } else {
         Ok(params)
     }

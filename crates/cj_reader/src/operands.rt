@@ -14,6 +14,7 @@ use crate::operators::{applied, operator_at};
 use crate::refusals::refuse_if;
 use crate::scope::Scope;
 use cj_grammar::refused;
+use cj_ir::limits::{MAX_LABEL_NAME, MAX_NAME};
 use cj_ir::{Expr, Label, Name, Operand, Reg};
 use cj_tokens::{Kind, Lexeme, ParseError, Terminal, Tokens};
 
@@ -30,7 +31,7 @@ fn name_place(names: &[Name], text: &[u8]) -> Option<usize>
 pub fn register(scope: Scope<'_>, token: Lexeme<'_>) -> Result<Reg, ParseError>
     ensures { Found result (register_at (scope_in scope.entry) (seen token.entry)) }
 {
-    refuse_if(token.text.len() > 32, token, Kind::TooMany)?;
+    refuse_if(token.text.len() > MAX_NAME, token, Kind::TooMany)?;
     match name_place(scope.registers, token.text) {
         Some(place) => Ok(Reg(place as u32)),
         None => Err(refused(token, Kind::NoRegister)),
@@ -41,7 +42,7 @@ pub fn register(scope: Scope<'_>, token: Lexeme<'_>) -> Result<Reg, ParseError>
 pub fn is_line_number(number: i64) -> bool
     ensures { result ≡ is_line_number number }
 {
-    0 <= number && number <= 65535
+    0 <= number && number <= i64::from(MAX_LABEL_NAME)
 }
 
 /// The label that a NUM is.

@@ -2,6 +2,7 @@
 
 ghost use Rattle.std.specs.Prelude.{◌≤◌, length};
 
+use cj_ir::limits::MAX_REGS;
 use cj_ir::{FunId, Name};
 use indexmap::IndexMap;
 
@@ -32,5 +33,5 @@ pub struct Scope<'s> {
     pub registers: &'s [Name],
     pub labels: &'s Labels,
     pub functions: &'s Functions<'s>,
-    ghost few: { length registers.now ≤ 32 },
+    ghost few: { length registers.now ≤ MAX_REGS },
 }
