@@ -9,6 +9,14 @@ ghost use Rattle.cj_parts.specs.Parts.{MarkPart};
 use cj_ir::FunId;
 use cj_profile::{Profile, ProfileSeat};
 
+// The entry of a function with which level 1 is asked for, and the one with which level 2 is.
+const CALLS_OF_LEVEL_ONE: u64 = 8;
+
+const CALLS_OF_LEVEL_TWO: u64 = 64;
+
+// The failure in a function with which level 3 is asked for.
+const FAILURES_OF_LEVEL_THREE: u64 = 3;
+
 /// An entry of a function is counted, and at two counts a level is asked for.
 #[tactic(auto, using(crate::proofs::Marking::entered_asks_one, crate::proofs::Marking::entered_asks_two, crate::proofs::Marking::entered_asks_none))]
 pub(crate) fn count_entry(profile: &Profile, seat: &mut ProfileSeat, f: FunId, args: &[i64])
@@ -20,9 +28,9 @@ pub(crate) fn count_entry(profile: &Profile, seat: &mut ProfileSeat, f: FunId, a
     ensures part { AddsPart (MarkPart (Entered f args.now)) seat.old seat.new }
 {
     let count = profile.entered(seat, f, args);
-    if count == 8 {
+    if count == CALLS_OF_LEVEL_ONE {
         profile.ask(seat, f, 1);
-    } else if count == 64 {
+    } else if count == CALLS_OF_LEVEL_TWO {
         profile.ask(seat, f, 2);
     }
 }
@@ -37,7 +45,7 @@ pub(crate) fn count_failure(profile: &Profile, seat: &mut ProfileSeat, f: FunId)
     ensures part { AddsPart (MarkPart (FailedIn f)) seat.old seat.new }
 {
     let count = profile.failed(seat, f);
-    if count == 3 {
+    if count == FAILURES_OF_LEVEL_THREE {
         profile.ask(seat, f, 3);
     }
 }
