@@ -8,10 +8,8 @@ ghost use Rattle.cj_worker.specs.Workers.{program_in, IsReady};
 
 use super::Worker;
 use cj_io::OpenGate;
-use cj_ir::{
-    Checked, Expr, FunId, Function, Functions, Instr, Label, Line, Lines, Name, Names, Operand,
-    Program, Reg, check,
-};
+use cj_ir::samples::{alone, constant_zero, double as doubling};
+use cj_ir::{Checked, FunId};
 use cj_notes::WorkNote;
 use cj_profile::{ParamNote, Profile, ProfileSeat, Snapshot};
 use cj_publish::{CodeSeat, CodeTable};
@@ -21,55 +19,6 @@ use std::sync::Wait;
 use std::test::Fail;
 
 const MAIN: FunId = FunId(0);
-
-fn named(rt: &impl Abort, alloc: Global, name: &str) -> Result<Name, Fail> {
-    Ok(Name::of(alloc, name.as_bytes())?.expect(rt, "a name"))
-}
-
-fn add_line(code: &mut Lines, name: u32, instr: Instr) -> Result<(), Fail> {
-    Ok(code.push(Line { name, instr })?)
-}
-
-// 1: return 0
-fn return_lines(alloc: Global) -> Result<Lines, Fail> {
-    let mut code = Lines::new(alloc);
-    let value = Operand::Const(0);
-    add_line(&mut code, 1, Instr::Return { value })?;
-    Ok(code)
-}
-
-// 1: op r = n * 2 -> 2   2: print r -> 3   3: return r
-fn double_lines(alloc: Global) -> Result<Lines, Fail> {
-    let mut code = Lines::new(alloc);
-    let value = Operand::Reg(Reg(1));
-    let product = Instr::Op {
-        dest: Reg(1),
-        expr: Expr::Mul(Operand::Reg(Reg(0)), Operand::Const(2)),
-        next: Label(1),
-    };
-    let next = Label(2);
-    add_line(&mut code, 1, product)?;
-    add_line(&mut code, 2, Instr::Print { value, next })?;
-    add_line(&mut code, 3, Instr::Return { value })?;
-    Ok(code)
-}
-
-fn of_main(
-    rt: &impl Abort,
-    alloc: Global,
-    params: u32,
-    regs: Names,
-    code: Lines,
-) -> Result<Checked, Fail> {
-    let mut functions = Functions::new(alloc);
-    functions.push(Function {
-        name: named(rt, alloc, "main")?,
-        params,
-        regs,
-        code,
-    })?;
-    Ok(check(Program { functions }).expect(rt, "a well-formed program"))
-}
 
 fn has_main(checked: &Checked) -> bool
     ensures { IsTrue result → HasMain checked.now }
@@ -86,7 +35,7 @@ fn has_double(checked: &Checked) -> bool
 fn returning(rt: &impl Abort, alloc: Global) -> Result<Checked, Fail>
     ensures { IfOk result (λ checked. HasMain checked) }
 {
-    let checked = of_main(rt, alloc, 0, Names::new(alloc), return_lines(alloc)?)?;
+    let checked = alone(constant_zero(alloc, "main")?)?;
     assert!(rt; has_main(&checked));
     Ok(checked)
 }
@@ -94,10 +43,7 @@ fn returning(rt: &impl Abort, alloc: Global) -> Result<Checked, Fail>
 fn double(rt: &impl Abort, alloc: Global) -> Result<Checked, Fail>
     ensures { IfOk result (λ checked. HasDouble checked) }
 {
-    let mut regs = Names::new(alloc);
-    regs.push(named(rt, alloc, "n")?)?;
-    regs.push(named(rt, alloc, "r")?)?;
-    let checked = of_main(rt, alloc, 1, regs, double_lines(alloc)?)?;
+    let checked = alone(doubling(alloc)?)?;
     assert!(rt; has_double(&checked));
     Ok(checked)
 }
