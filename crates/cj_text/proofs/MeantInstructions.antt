@@ -20,6 +20,7 @@ use Rattle.cj_tokens.specs.declared.refusal.Kind.TheVariants.{TooMany, Range, No
 use Rattle.cj_tokens.specs.declared.refusal.Refused.{Refused}
 use Rattle.cj_grammar.specs.Grammar.{Leaf, Tree}
 use Rattle.cj_grammar.specs.Rules as rule
+use Rattle.cj_grammar.specs.Alternatives.{of_instr, of_binary}
 use Rattle.cj_grammar.specs.Reading.{offends_if, missing}
 use Rattle.cj_reader.specs.Scopes.{Scope, name_place, number_place, scope_of}
 use Rattle.cj_reader.specs.Operands.{is_long, is_line_number, register_offences, register_of, label_offences, label_of, target_offences, target_of, operand_offences, operand_of, binary_of, expr_offences, expr_of}
@@ -115,7 +116,7 @@ expr_fine fs f l (exprs.Eq a b) k = two_fine fs f l a b k
 expr_fine fs f l (exprs.Lt a b) k = two_fine fs f l a b k
 
 expr_same : (fs : List Function) (f : Function) (l : ℕ) (e : Expr) → ExprKnown f e → expr_of (known_scope fs f) (expr_tree l f e) ≡ e
-unfolding rule.expr rule.binary expr_tree expr_of binary_of
+unfolding rule.expr rule.binary expr_tree expr_of of_binary binary_of
 expr_same fs f l (exprs.Copy a) k = ap exprs.Copy (operand_same fs f l a k)
 expr_same fs f l (exprs.Neg a) k = ap exprs.Neg (operand_same fs f l a k)
 expr_same fs f l (exprs.Eqz a) k = ap exprs.Eqz (operand_same fs f l a k)
@@ -170,7 +171,7 @@ callee_same fs f l id count k = rw k.place refl
 -- ---- instructions
 
 pub instr_fine : (fs : List Function) (f : Function) (l : ℕ) (i : Instr) → InstrKnown fs f i → instr_offences (known_scope fs f) (instr_tree fs f l i) ≡ []
-unfolding rule.instr rule.nop_instr rule.op_instr rule.cond_instr rule.call_instr rule.return_instr rule.print_instr rule.load_instr rule.store_instr rule.fail_instr instr_tree instr_offences nop_offences op_offences cond_offences call_offences return_offences print_offences load_offences store_offences fail_offences
+unfolding rule.instr rule.nop_instr rule.op_instr rule.cond_instr rule.call_instr rule.return_instr rule.print_instr rule.load_instr rule.store_instr rule.fail_instr instr_tree of_instr instr_offences nop_offences op_offences cond_offences call_offences return_offences print_offences load_offences store_offences fail_offences
 instr_fine fs f l (instrs.Nop next) k = target_fine fs f l next k
 instr_fine fs f l (instrs.Op dest e next) k =
     none _ _ (register_fine fs f l dest k.0) (none _ _ (expr_fine fs f l e k.1) (target_fine fs f l next k.2))
@@ -189,7 +190,7 @@ instr_fine fs f l (instrs.Store address value next) k =
 instr_fine fs f l (instrs.Fail text) k = unless (nat_lt 64 (length text)) (text_token l text) TooMany (text_parts text k).1
 
 pub instr_same : (fs : List Function) (f : Function) (l : ℕ) (i : Instr) → InstrKnown fs f i → instr_of (known_scope fs f) (instr_tree fs f l i) ≡ i
-unfolding rule.instr rule.nop_instr rule.op_instr rule.cond_instr rule.call_instr rule.return_instr rule.print_instr rule.load_instr rule.store_instr rule.fail_instr instr_tree instr_of nop_of op_of cond_of call_of return_of print_of load_of store_of fail_of
+unfolding rule.instr rule.nop_instr rule.op_instr rule.cond_instr rule.call_instr rule.return_instr rule.print_instr rule.load_instr rule.store_instr rule.fail_instr instr_tree of_instr instr_of nop_of op_of cond_of call_of return_of print_of load_of store_of fail_of
 instr_same fs f l (instrs.Nop next) k = ap instrs.Nop (target_same fs f l next k)
 instr_same fs f l (instrs.Op dest e next) k =
     same_three instrs.Op (register_same fs f l dest k.0) (expr_same fs f l e k.1) (target_same fs f l next k.2)

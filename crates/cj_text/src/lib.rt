@@ -14,6 +14,7 @@ mod texts;
 mod written;
 
 pub use again::{read_back, read_program_back};
+pub use cj_grammar::Shape;
 pub use cj_ir::{Input, Script, ScriptCall, Setup};
 pub use cj_printer::{print, print_input};
 pub use cj_reader::read_program;

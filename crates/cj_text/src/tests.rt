@@ -1,8 +1,8 @@
 //! Texts, their canonical texts, and what these are read as.
 
 use crate::{
-    Kind, ParseError, Refused, canonical_text, parse, print, print_input, read_back,
-    read_program_back,
+    Kind, ParseError, Piece, Refused, Shape, Token, Tokens, canonical_text, parse, print,
+    print_input, read_back, read_program, read_program_back,
 };
 use std::alloc::Global;
 use std::process::Abort;
@@ -82,5 +82,31 @@ fn canonical_texts_are_read_as_what_they_print(rt: HostRuntime) -> Result<(), Fa
     });
     let answer = canonical_text(alloc, b"fun main() { 1: return 0 }\nfun");
     assert!(rt; matches!(answer, Err(error) if error == refused));
+    Ok(())
+}
+
+#[test]
+fn functions_are_gone_past_and_read(rt: HostRuntime) -> Result<(), Fail> {
+    let mut tokens = Tokens::of(b"calls fun f() {\n1: return 0\n}\nevents");
+    assert!(rt; tokens.next().is_ok());
+    let mut ahead = tokens;
+    assert_eq!(rt; ahead.shape(), Ok(()));
+    let events = Token {
+        line: 4,
+        start: 30,
+        end: 36,
+        what: Piece::Keyword,
+    };
+    assert_eq!(rt; ahead.next(), Ok(events));
+
+    let program = read_program(rt.alloc(), &mut tokens)?;
+    assert_eq!(rt; program.program().functions.items().len(), 1);
+    assert_eq!(rt; tokens.next(), Ok(events));
+
+    let refused = Refused {
+        line: 4,
+        kind: Kind::Syntax,
+    };
+    assert_eq!(rt; tokens.shape(), Err(refused));
     Ok(())
 }
