@@ -28,10 +28,10 @@ use Rattle.cj_activations.specs.declared.windows.Position.TheVariants.{Base}
 use Rattle.cj_activations.specs.Activations.{VersionFrame, Active, InBase, InVersion}
 use Rattle.cj_activations.specs.Changes.{active_regs, position_of}
 use Rattle.cj_engine.specs.declared.steps.Step.TheVariants as step
-use Rattle.cj_engine.specs.Versions.{State, Codes, Continues, Finishes, counted, passed, rebuilt, returns_to, turn_by, version_turn_by}
+use Rattle.cj_engine.specs.Versions.{State, Codes, Continues, Finishes, counted, moved_to, passed, rebuilt, returns_to, turn_by, version_turn_by}
 use Rattle.cj_engine.specs.Marks.{Branched, edge_of, effect_marks, base_marks, version_marks}
 use Rattle.cj_engine.specs.Machines.{went_on, CarriesOut, progress_of}
-use Rattle.cj_engine.specs.Stepping.{IsStep, IsBaseStep, IsVersionStep, marks_told, step_of, BaseNeeds, VersionNeeds, EffectTakesMemory, VersionTakesMemory}
+use Rattle.cj_engine.specs.Stepping.{IsStep, IsBaseStep, IsVersionStep, StaysIn, marks_told, step_of, BaseNeeds, VersionNeeds, EffectTakesMemory, VersionTakesMemory}
 
 base_regs : (a : Active) (fr : Frame) → a ≡ InBase fr → active_regs a ≡ fr.regs
 unfolding active_regs
@@ -110,6 +110,17 @@ base_by instr args old new answer e is marks c = record {
   needs = no_base_needs instr args answer;
 }
 
+-- such an effect leaves a version where it was, but for its label
+stays_by : (e : Effect) (answer : Turned) (old new : State) (v : VersionFrame) → old.stack.top ≡ InVersion v → CarriesOut e answer old new → StaysIn v new (step_of answer)
+unfolding step_of went_on counted moved_to position_of
+stays_by e (Ended end) old new v top c = tt
+stays_by (On next regs m printed) Running old new v top c =
+    let same : new ≡ went_on old next regs m printed = cc in
+    (next, rw (same, top) refl)
+stays_by (Faults fault) Running old new v top c = let never : ⊥ = cc in absurd never
+stays_by (Calls dest f given next) Running old new v top c = absurd c
+stays_by (Returns x) Running old new v top c = absurd c
+
 -- an instruction of a version, no Assume
 pub version_by : (instr : VInstr) (args : List ℤ) (old new : State) (answer : Turned) (e : List ℤ → Effect)
     → ((regs : List ℤ) → version_effect instr regs old.memory ≡ Plain (e regs))
@@ -125,6 +136,7 @@ version_by instr args old new answer e is c = record {
       ∙ no_marks (e v.regs) answer old new (subst (λ regs. CarriesOut (e regs) answer old new) (version_regs old.stack.top v top) c)
       ∙ sym (none_told answer v.function v.label args);
   needs = no_version_needs instr args answer;
+  stays = λ v top. stays_by (e (active_regs old.stack.top)) answer old new v top c;
 }
 
 -- ---- a cond of a base frame
@@ -177,6 +189,7 @@ version_enters dest f given next args s is = record {
   );
   marks = λ v top. rw (← version_regs s.stack.top v top, ← is) refl;
   needs = (given, refl, ap length is ∙ length-map given (operand_value (active_regs s.stack.top)));
+  stays = λ v top. tt;
 }
 
 pub version_returns : (value : Operand) (x : ℤ) (args : List ℤ) (s : State) → x ≡ operand_value (active_regs s.stack.top) value
@@ -186,6 +199,7 @@ version_returns value x args s is = record {
   made = λ P v top. (refl, λ codes look. ap (λ y. returns_to codes s y s.stack.waiting) (sym (is ∙ ap (λ regs. operand_value regs value) (version_regs s.stack.top v top))));
   marks = λ v top. refl;
   needs = tt;
+  stays = λ v top. tt;
 }
 
 -- ---- failures of base frames
@@ -209,13 +223,14 @@ pub version_passes_by : (instr : VInstr) (args : List ℤ) (old new : State) (ba
     → version_effect instr (active_regs old.stack.top) old.memory ≡ Guarded true back target next
     → ((v : VersionFrame) → old.stack.top ≡ InVersion v → new ≡ passed old v next)
     → IsVersionStep instr args old new step.Goes
-unfolding version_turn_by version_marks marks_told
+unfolding version_turn_by version_marks marks_told passed moved_to position_of
 version_passes_by instr args old new back target next is goes = record {
   made = λ P v top codes look.
       ap (version_turn_by P codes look old v) (ap (λ regs. version_effect instr regs old.memory) (sym (version_regs old.stack.top v top)) ∙ is)
       ∙ ap Continues (sym (goes v top));
   marks = λ v top. ap (version_marks v) (ap (λ regs. version_effect instr regs old.memory) (sym (version_regs old.stack.top v top)) ∙ is);
   needs = tt;
+  stays = λ v top. (next, rw (goes v top) refl);
 }
 
 pub version_fails_by : (instr : VInstr) (args : List ℤ) (old new : State) (back : ℕ) (target : Point) (next : Label)
@@ -229,6 +244,7 @@ version_fails_by instr args old new back target next is goes = record {
       ∙ ap Continues (ap (λ regs. rebuilt old back (frames_of P target regs)) (sym (version_regs old.stack.top v top)) ∙ sym (goes P));
   marks = λ v top. ap (version_marks v) (ap (λ regs. version_effect instr regs old.memory) (sym (version_regs old.stack.top v top)) ∙ is);
   needs = tt;
+  stays = λ v top. tt;
 }
 
 -- ---- want of memory

@@ -24,10 +24,11 @@ use Rattle.cj_activations.specs.Activations.{VersionFrame, Active, InBase}
 use Rattle.cj_activations.specs.Changes.{active_regs, position_of}
 use Rattle.cj_engine.specs.declared.steps.Step.{Step}
 use Rattle.cj_engine.specs.declared.steps.Step.TheVariants as step
+use Rattle.cj_engine.specs.declared.steps.Step.TheVariants.{Goes}
 use Rattle.cj_engine.specs.Versions.{State, Codes, Progress, version_turn, version_turn_by}
 use Rattle.cj_engine.specs.Marks.{version_marks, turn_marks}
 use Rattle.cj_engine.specs.CodeMaps.{Grows}
-use Rattle.cj_engine.specs.Stepping.{Turn, StandsAt, IsStep, IsReady, CanGoBack, IsBaseStep, IsVersionStep, BaseNeeds, VersionNeeds, EffectTakesMemory, VersionTakesMemory, BaseTakesMemory, PlaceTakesMemory, TopTakesMemory, TurnTakesMemory, IsEntry, marks_told}
+use Rattle.cj_engine.specs.Stepping.{Turn, StandsAt, IsStep, IsReady, CanGoBack, IsBaseStep, IsVersionStep, StaysIn, BaseNeeds, VersionNeeds, EffectTakesMemory, VersionTakesMemory, BaseTakesMemory, PlaceTakesMemory, TopTakesMemory, TurnTakesMemory, IsEntry, marks_told}
 use Rattle.cj_engine.specs.Engines.{CanTurn}
 use Rattle.cj_engine.proofs.Arms.{place_is, turn_at_base, turn_at_version, marks_at_base, marks_at_version}
 use Rattle.cj_engine.proofs.Fitting.{IsBaseTop, base_top, line_instr, base_fits, IsVersionTop, version_top, version_fits}
@@ -149,6 +150,17 @@ module _ {P : Program} {codes : Codes} {s : State} {f : FunId} {offset : ℕ} {l
 
       pub version_entry_takes : IsEntry step → TurnTakesMemory P codes s
       version_entry_takes enters = version_takes (version_call_takes instr args step (active_regs s.stack.top) s.memory made.needs enters)
+
+      -- a step that leaves nothing to do stays where it was, but for its label
+      pub version_stays : step ≡ Goes → (next : Label) × (position_of now.stack.top ≡ Version f offset next)
+      unfolding position_of
+      version_stays is =
+          let v = version_here.frame in
+          let same : Version v.function v.offset v.label ≡ Version f offset label = sym (ap position_of version_here.top) ∙ position in
+          let function : v.function ≡ f = cc in
+          let at : v.offset ≡ offset = cc in
+          let stay = subst (StaysIn v now) is (made.stays v version_here.top) in
+          (stay.0, stay.1 ∙ ap (λ (g : FunId). Version g v.offset stay.0) function ∙ ap (λ (n : ℕ). Version f n stay.0) at)
 
       pub version_turn_done : {later : Codes} {final : Progress} {first looks : List Look} (found_looks : List Look) → Grows codes later → first ≡ looks → IsCarried P args now step later (slice_get found_looks (length first)) final → version_turn P later (slice_get found_looks (length looks)) s ≡ final
       version_turn_done {later} {final} {first} {looks} found_looks grows same carried =

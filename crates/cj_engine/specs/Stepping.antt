@@ -20,6 +20,8 @@ use Rattle.cj_draft.specs.declared.code.Code.{Code}
 use Rattle.cj_draft.specs.Arrives.{place_at}
 use Rattle.cj_draft.specs.Effects.{VersionEffect, Plain, Guarded, version_effect}
 use Rattle.cj_calls.specs.declared.report.Look.{Look}
+use Rattle.cj_activations.specs.declared.windows.Position.TheVariants.{Version}
+use Rattle.cj_activations.specs.Changes.{position_of}
 use Rattle.cj_activations.specs.Activations.{VersionFrame, Active, InBase, InVersion, Paused, BaseWaits, VersionWaits}
 use Rattle.cj_engine.specs.declared.steps.Step.{Step}
 use Rattle.cj_engine.specs.declared.steps.Step.TheVariants as step
@@ -75,11 +77,17 @@ pub record IsBaseStep (instr : Instr) (args : List ℤ) (old new : State) (step 
   pub marks : (fr : Frame) → old.stack.top ≡ InBase fr → base_marks fr old.memory (Some instr) ≡ marks_told step fr.function fr.label args
   pub needs : BaseNeeds instr args step
 
+-- a step that leaves nothing to do stays in its version
+abbrev pub StaysIn : VersionFrame → State → Step → Type 0
+StaysIn v new step.Goes = (label : Label) × (position_of new.stack.top ≡ Version v.function v.offset label)
+StaysIn v new step = ⊤
+
 -- the step of the instruction of a version's place
 pub record IsVersionStep (instr : VInstr) (args : List ℤ) (old new : State) (step : Step) : Type 0 where
   pub made : (P : Program) (v : VersionFrame) → old.stack.top ≡ InVersion v → IsStep P (λ codes look. version_turn_by P codes look old v (version_effect instr v.regs old.memory)) args old new step
   pub marks : (v : VersionFrame) → old.stack.top ≡ InVersion v → version_marks v (version_effect instr v.regs old.memory) ≡ marks_told step v.function v.label args
   pub needs : VersionNeeds instr args step
+  pub stays : (v : VersionFrame) → old.stack.top ≡ InVersion v → StaysIn v new step
 
 -- the instruction at that label of the version that a function has at an offset
 pub record StandsAt (codes : Codes) (f : FunId) (offset : ℕ) (label : Label) (instr : VInstr) : Type 0 where

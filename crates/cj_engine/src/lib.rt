@@ -1,6 +1,7 @@
 //! The engine, which runs base bodies and versions.
 #![tactic(auto)]
 
+mod assumes;
 pub mod calls;
 pub mod engine;
 pub mod laws;
@@ -20,5 +21,3 @@ pub use watch::Watch;
 
 #[cfg(test)]
 mod tests;
-#[cfg(test)]
-mod version_tests;

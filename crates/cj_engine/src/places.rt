@@ -58,18 +58,12 @@ pub(crate) fn entry_at<W: Watch>(
     }
 }
 
-// The label of a version of the function at that offset, if one stands there.
-pub(crate) fn label_in(position: Position, function: FunId, offset: u64) -> Option<Label>
-    ensures is { (label : Label) → result ≡ Some label → position ≡ Version function offset label }
-    ensures there { (label : Label) → position ≡ Version function offset label → result ≡ Some label }
+// The label of a position.
+pub(crate) fn label_of(position: Position) -> Label
+    ensures { (function : FunId) (offset : ℕ) (label : Label) → position ≡ Version function offset label → result ≡ label }
 {
     match position {
-        Position::Version {
-            function: own,
-            offset: at,
-            label,
-        } if own.0 == function.0 && at == offset => Some(label),
-        _ => None,
+        Position::Base { label, .. } | Position::Version { label, .. } => label,
     }
 }
 

@@ -9,7 +9,7 @@ ghost use Rattle.cj_engine.specs.Machines.{state_of};
 ghost use Rattle.cj_engine.specs.Engines.{HasRoom};
 ghost use Rattle.cj_engine.specs.Stretches.{Glides, Starves, Onward, Stretched, Halted};
 
-use crate::places::{base_label_in, instr_in, label_in, line_in};
+use crate::places::{base_label_in, instr_in, label_of, line_in};
 use crate::runner::Runner;
 use crate::steps::Step;
 use crate::watch::Watch;
@@ -128,7 +128,7 @@ impl Runner<'_> {
         Ok(Turned::Running)
     }
 
-    // Turns of the version on top, at most so many, up to the first that leaves something to do.
+    // Turns of the version on top, at most so many, up to the first that leaves something to do. All others stay in the version.
     fn glide<W: Watch>(
         &mut self,
         watch: &W,
@@ -151,13 +151,7 @@ impl Runner<'_> {
         let _program = self.checked.program();
         let code = watch.version(function, offset).code();
         for _ in 0..count {
-            let position = self.machine.activations.position();
-            let Some(label) = label_in(position, function, offset) else {
-                return Ok(Stop {
-                    step: Step::Goes,
-                    label: Label(0),
-                });
-            };
+            let label = label_of(self.machine.activations.position());
             let instr = instr_in(code, label);
             match self.machine.step_version(instr, &mut self.scratch)? {
                 Step::Goes => {}

@@ -1,19 +1,16 @@
-use Rattle.std.proofs.Common.{◌≡◌, ◌∙◌, refl, sym, ap, subst, arith, inl, inr, suc, ◌+◌, ◌-◌, ◌≤◌, Some, add-one, length}
+use Rattle.std.proofs.Common.{◌≡◌, ◌∙◌, refl, sym, ap, subst, arith, inl, inr, suc, ◌+◌, ◌-◌, Some, add-one, length}
+use Rattle.cj_ir.specs.declared.language.Label.{Label}
 use Rattle.cj_ir.specs.declared.language.Program.{Program}
+use Rattle.cj_activations.specs.declared.windows.Position.TheVariants.{Version}
 use Rattle.cj_draft.specs.declared.code.Code.{Code}
 use Rattle.cj_engine.specs.Machines.{state_of}
 use Rattle.cj_engine.specs.CodeMaps.{SoundCodes}
-use Rattle.cj_engine.proofs.Gliding.{some_turn, room_turns, room_after, placed_here, stands_here, goes_quietly, stops_here}
-use Rattle.cj_engine.proofs.Turning.{version_few, version_back, version_fine, version_takes}
+use Rattle.cj_engine.proofs.Gliding.{room_turns, room_after, placed_here, stands_here, goes_quietly, stops_here}
+use Rattle.cj_engine.proofs.Turning.{version_few, version_back, version_fine, version_takes, version_stays}
 use Rattle.cj_engine.proofs.Onwards.{refused_so}
 use Rattle.cj_engine.specs.declared.machine.Machine.{Machine}
 use Rattle.cj_engine.specs.Stretches.{Starves}
 use Rattle.cj_engine.proofs.runner.Runner.glide.Goals as goal
-
-pub returns-in_default-clause-made : goal.returns-in_default-clause-made
-returns-in_default-clause-made g c =
-    let some : 1 ≤ c.loop.counter = some_turn c.loop.counter (λ first. c.in_default.not-Some (c.loop.invariant.place first).0 (c.label_in.ensures.there (c.loop.invariant.place first).0 (c.position-position.ensures ∙ (c.loop.invariant.place first).1))) in
-    inl (refl, c.loop.counter, some, (let t = c.loop-test.true in omega arith), c.loop.invariant.quiet)
 
 pub instr_in-instr-requires : goal.instr_in-instr-requires
 unfolding state_of
@@ -22,7 +19,8 @@ instr_in-instr-requires g c =
     let codes = g.W.Watch.codes c.args.watch.now in
     let sound = subst (λ (Q : Program). SoundCodes Q codes) c.requires.program (g.met.W.Watch.sound c.args.watch.now c.requires.ready) in
     let can = room_turns P codes _ (state_of c.loop.self.machine) c.program-program.ensures.well_formed sound c.loop.invariant.room (let t = c.loop-test.true in omega arith) in
-    let at = sym c.position-position.ensures ∙ c.label_in.ensures.is c.in-Some.label c.in-Some.is in
+    let place = c.loop.invariant.place in
+    let at = place.1 ∙ ap (λ (l : Label). Version c.args.function c.args.offset l) (sym (c.label_of-label.ensures c.args.function c.args.offset place.0 (c.position.ensures ∙ place.1))) in
     placed_here can at c.code-code.result.now (c.version.ensures.code ∙ ap (λ (x : Code). Some x) (sym c.code-code.ensures.same))
 
 pub step_version-requires-clause-few : goal.step_version-requires-clause-few
@@ -32,7 +30,8 @@ step_version-requires-clause-few g c =
     let codes = g.W.Watch.codes c.args.watch.now in
     let sound = subst (λ (Q : Program). SoundCodes Q codes) c.requires.program (g.met.W.Watch.sound c.args.watch.now c.requires.ready) in
     let can = room_turns P codes _ (state_of c.loop.self.machine) c.program-program.ensures.well_formed sound c.loop.invariant.room (let t = c.loop-test.true in omega arith) in
-    let at = sym c.position-position.ensures ∙ c.label_in.ensures.is c.in-Some.label c.in-Some.is in
+    let place = c.loop.invariant.place in
+    let at = place.1 ∙ ap (λ (l : Label). Version c.args.function c.args.offset l) (sym (c.label_of-label.ensures c.args.function c.args.offset place.0 (c.position.ensures ∙ place.1))) in
     let there = stands_here can at c.code-code.result.now c.instr_in-instr.result.now (c.version.ensures.code ∙ ap (λ (x : Code). Some x) (sym c.code-code.ensures.same)) c.instr_in-instr.ensures in
     version_few can at there
 
@@ -43,7 +42,8 @@ step_version-requires-clause-back g c =
     let codes = g.W.Watch.codes c.args.watch.now in
     let sound = subst (λ (Q : Program). SoundCodes Q codes) c.requires.program (g.met.W.Watch.sound c.args.watch.now c.requires.ready) in
     let can = room_turns P codes _ (state_of c.loop.self.machine) c.program-program.ensures.well_formed sound c.loop.invariant.room (let t = c.loop-test.true in omega arith) in
-    let at = sym c.position-position.ensures ∙ c.label_in.ensures.is c.in-Some.label c.in-Some.is in
+    let place = c.loop.invariant.place in
+    let at = place.1 ∙ ap (λ (l : Label). Version c.args.function c.args.offset l) (sym (c.label_of-label.ensures c.args.function c.args.offset place.0 (c.position.ensures ∙ place.1))) in
     let there = stands_here can at c.code-code.result.now c.instr_in-instr.result.now (c.version.ensures.code ∙ ap (λ (x : Code). Some x) (sym c.code-code.ensures.same)) c.instr_in-instr.ensures in
     version_back can at there
 
@@ -54,21 +54,23 @@ step_version-requires-clause-fine g c =
     let codes = g.W.Watch.codes c.args.watch.now in
     let sound = subst (λ (Q : Program). SoundCodes Q codes) c.requires.program (g.met.W.Watch.sound c.args.watch.now c.requires.ready) in
     let can = room_turns P codes _ (state_of c.loop.self.machine) c.program-program.ensures.well_formed sound c.loop.invariant.room (let t = c.loop-test.true in omega arith) in
-    let at = sym c.position-position.ensures ∙ c.label_in.ensures.is c.in-Some.label c.in-Some.is in
+    let place = c.loop.invariant.place in
+    let at = place.1 ∙ ap (λ (l : Label). Version c.args.function c.args.offset l) (sym (c.label_of-label.ensures c.args.function c.args.offset place.0 (c.position.ensures ∙ place.1))) in
     let there = stands_here can at c.code-code.result.now c.instr_in-instr.result.now (c.version.ensures.code ∙ ap (λ (x : Code). Some x) (sym c.code-code.ensures.same)) c.instr_in-instr.ensures in
     let fine = version_fine can at there in (P, fine.0, fine.1)
 
-pub returns-in_default-2 : goal.returns-in_default-2
+pub returns-in_default : goal.returns-in_default
 unfolding state_of
-returns-in_default-2 g c =
+returns-in_default g c =
     let P = c.args.self.now.checked.now in
     let codes = g.W.Watch.codes c.args.watch.now in
     let sound = subst (λ (Q : Program). SoundCodes Q codes) c.requires.program (g.met.W.Watch.sound c.args.watch.now c.requires.ready) in
     let can = room_turns P codes _ (state_of c.loop.self.machine) c.program-program.ensures.well_formed sound c.loop.invariant.room (let t = c.loop-test.true in omega arith) in
-    let at = sym c.position-position.ensures ∙ c.label_in.ensures.is c.in-Some.label c.in-Some.is in
+    let place = c.loop.invariant.place in
+    let at = place.1 ∙ ap (λ (l : Label). Version c.args.function c.args.offset l) (sym (c.label_of-label.ensures c.args.function c.args.offset place.0 (c.position.ensures ∙ place.1))) in
     let there = stands_here can at c.code-code.result.now c.instr_in-instr.result.now (c.version.ensures.code ∙ ap (λ (x : Code). Some x) (sym c.code-code.ensures.same)) c.instr_in-instr.ensures in
     record {
-      made = inr (stops_here can at there c.loop.counter c.args.count (let t = c.loop-test.true in omega arith) c.in_default-2.not-Goes c.in_ok-step.ensures.made c.loop.invariant.quiet);
+      made = inr (stops_here can at there c.loop.counter c.args.count (let t = c.loop-test.true in omega arith) c.in_default.not-Goes c.in_ok-step.ensures.made c.loop.invariant.quiet);
       starved = tt;
       looks = c.in_ok-step.ensures.looks ∙ c.loop.invariant.looks;
       checked = c.loop.invariant.checked;
@@ -81,7 +83,8 @@ loop-preserved g c =
     let codes = g.W.Watch.codes c.args.watch.now in
     let sound = subst (λ (Q : Program). SoundCodes Q codes) c.requires.program (g.met.W.Watch.sound c.args.watch.now c.requires.ready) in
     let can = room_turns P codes _ (state_of c.loop.self.machine) c.program-program.ensures.well_formed sound c.loop.invariant.room (let t = c.loop-test.true in omega arith) in
-    let at = sym c.position-position.ensures ∙ c.label_in.ensures.is c.in-Some.label c.in-Some.is in
+    let place = c.loop.invariant.place in
+    let at = place.1 ∙ ap (λ (l : Label). Version c.args.function c.args.offset l) (sym (c.label_of-label.ensures c.args.function c.args.offset place.0 (c.position.ensures ∙ place.1))) in
     let there = stands_here can at c.code-code.result.now c.instr_in-instr.result.now (c.version.ensures.code ∙ ap (λ (x : Code). Some x) (sym c.code-code.ensures.same)) c.instr_in-instr.ensures in
     let quiet = goes_quietly can at there c.in_ok-step.ensures.made c.in-Goes.is (ap length c.in_ok-step.ensures.looks) in
     let counter = c.loop.counter in
@@ -90,7 +93,7 @@ loop-preserved g c =
     let one : counter + 1 ≡ suc counter = add-one counter in
     record {
       quiet = rw one (state_of c.loop.self.machine, c.loop.invariant.quiet, quiet);
-      place = λ zero. absurd (omega arith);
+      place = version_stays can at there c.in_ok-step.ensures.made c.in-Goes.is;
       room = room_after P codes (count - counter) (count - (counter + 1)) (state_of c.loop.self.machine) (state_of c.step_version.new.self) c.program-program.ensures.well_formed sound c.loop.invariant.room fewer quiet;
       looks = c.in_ok-step.ensures.looks ∙ c.loop.invariant.looks;
       checked = c.loop.invariant.checked;
@@ -107,7 +110,8 @@ returns-in_err-step-clause-starved g c =
     let codes = g.W.Watch.codes c.args.watch.now in
     let sound = subst (λ (Q : Program). SoundCodes Q codes) c.requires.program (g.met.W.Watch.sound c.args.watch.now c.requires.ready) in
     let can = room_turns P codes _ (state_of c.loop.self.machine) c.program-program.ensures.well_formed sound c.loop.invariant.room (let t = c.loop-test.true in omega arith) in
-    let at = sym c.position-position.ensures ∙ c.label_in.ensures.is c.in-Some.label c.in-Some.is in
+    let place = c.loop.invariant.place in
+    let at = place.1 ∙ ap (λ (l : Label). Version c.args.function c.args.offset l) (sym (c.label_of-label.ensures c.args.function c.args.offset place.0 (c.position.ensures ∙ place.1))) in
     let there = stands_here can at c.code-code.result.now c.instr_in-instr.result.now (c.version.ensures.code ∙ ap (λ (x : Code). Some x) (sym c.code-code.ensures.same)) c.instr_in-instr.ensures in
     let u = state_of c.loop.self.machine in
     let test = c.loop-test.true in

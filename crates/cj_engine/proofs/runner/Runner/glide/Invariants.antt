@@ -10,7 +10,7 @@ use Rattle.cj_engine.proofs.runner.Runner.glide.Given as goal
 abbrev pub invariant-loop : goal.invariant-loop
 invariant-loop g l = record {
   quiet : Quiet l.fn.self.checked.now (g.W.Watch.codes l.watch) l.counter (state_of l.fn.self.machine) (state_of l.self.machine);
-  place : l.counter ≡ 0 → (label : Label) × (position_of l.self.machine.activations.top ≡ Version l.function l.offset label);
+  place : (label : Label) × (position_of l.self.machine.activations.top ≡ Version l.fn.function l.fn.offset label);
   room : HasRoom l.fn.self.checked.now (g.W.Watch.codes l.watch) (l.count - l.counter) (state_of l.self.machine);
   looks : l.self.machine.looks ≡ l.fn.self.machine.looks;
   checked : l.self.checked ≡ l.fn.self.checked;

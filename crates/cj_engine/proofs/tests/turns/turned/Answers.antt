@@ -1,6 +1,6 @@
 use Rattle.std.proofs.Common.{◌<◌, arith}
 use Rattle.cj_engine.proofs.Walking.{walk_under_way, walk_goes}
-use Rattle.cj_engine.proofs.tests.turned.Goals as goal
+use Rattle.cj_engine.proofs.tests.turns.turned.Goals as goal
 
 pub turn-requires-clause-way : goal.turn-requires-clause-way
 turn-requires-clause-way g c =

@@ -4,20 +4,18 @@ ghost use Rattle.std.specs.Prelude.{◌≡◌, true, ⊤, IfOk};
 ghost use Rattle.cj_draft.specs.Bodies.{IsNoAnchor, HasNoAnchors};
 ghost use Rattle.cj_engine.specs.OneVersion.{IsOneOf};
 
-use super::*;
-use crate::tests::{call_of, is_limit, named, takes};
+use super::{MAIN, add_line, call_of, is_limit, named, takes};
+use crate::{Watch, run, run_from};
 use cj_base::End;
 use cj_calls::{Look, Looks, Report};
 use cj_draft::{Code, Draft, Place, VInstr, Version};
 use cj_ir::{
-    Checked, Edge, Expr, FunId, Function, Functions, Instr, Label, Line, Lines, Names, NoMemory,
-    Operand, Program, Reg, ScriptCall, Values, check,
+    Checked, Edge, Expr, FunId, Function, Functions, Instr, Label, Lines, Names, NoMemory, Operand,
+    Program, Reg, ScriptCall, Values, check,
 };
 use std::alloc::Global;
 use std::process::Abort;
 use std::test::Fail;
-
-const MAIN: FunId = FunId(0);
 
 const X: Operand = Operand::Reg(Reg(0));
 
@@ -76,10 +74,6 @@ impl<'p> Watch for OneVersion<'p> {
     ghost stays_same = { λ s. tt };
 
     ghost stays_on = { λ a b c p q. tt };
-}
-
-fn add_line(code: &mut Lines, name: u32, instr: Instr) -> Result<(), Fail> {
-    Ok(code.push(Line { name, instr })?)
 }
 
 // One is added to the parameter, which is printed and returned.
