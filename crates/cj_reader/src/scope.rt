@@ -1,8 +1,8 @@
 //! What is known where an instruction stands.
 
+ghost use Rattle.cj_ir.specs.declared.limits.TheConstants.{MAX_REGS};
 ghost use Rattle.std.specs.Prelude.{◌≤◌, length};
 
-use cj_ir::limits::MAX_REGS;
 use cj_ir::{FunId, Name};
 use indexmap::IndexMap;
 
