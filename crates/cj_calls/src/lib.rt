@@ -4,7 +4,7 @@
 pub mod report;
 pub mod text;
 
-pub use report::{Look, Looks, Note, Notes, Report, Reports};
+pub use report::{Look, Looks, MAX_NOTES, Note, Notes, Report, Reports};
 pub use text::{block_of, text_of};
 
 #[cfg(test)]

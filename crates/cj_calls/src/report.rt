@@ -25,6 +25,9 @@ pub type Notes = Sequence<Note>;
 
 pub type Reports = Sequence<Report>;
 
+/// Notes that a report keeps: the first ones of its run.
+pub const MAX_NOTES: usize = 256;
+
 /// The report of a call.
 #[derive(Debug, Drop)]
 pub struct Report {
@@ -38,7 +41,7 @@ pub struct Report {
     pub base_turns: u64,
     /// How many Assumes failed.
     pub fails: u64,
-    /// The first 256 rebuilt stacks, in order.
+    /// The first `MAX_NOTES` rebuilt stacks, in order.
     pub notes: Notes,
     /// All lookups, in order.
     pub looks: Looks,

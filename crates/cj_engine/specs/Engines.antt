@@ -23,6 +23,7 @@ use Rattle.cj_engine.specs.Memories.{base_memory, version_memory}
 use Rattle.cj_engine.specs.Stands.{Stands}
 use Rattle.cj_engine.specs.Machines.{IsEarly}
 use Rattle.cj_engine.specs.Stepping.{CanTake, CanGoBack}
+use Rattle.cj_draft.specs.declared.limits.TheConstants.{MAX_CODE_REGS}
 
 -- A run as callers see it: its program, its state, its looks, and whether a further turn can be made.
 pub record EngineView : Type 0 where
@@ -78,7 +79,7 @@ pub record VersionReady (P : Program) (codes : Codes) (base_turns : ℕ) (v : Ve
   pub found : codes v.function v.offset ≡ Some code
   pub at : place_at code v.label ≡ Some place
   pub inside : v.function.0 < length P.functions
-  pub few_regs : length v.regs ≤ 128
+  pub few_regs : length v.regs ≤ MAX_CODE_REGS
   pub fine : IsVInstrFine P (length v.regs) (length code.places) place.instr
   pub back : CanGoBack base_turns place.instr
 

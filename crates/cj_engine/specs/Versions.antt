@@ -21,6 +21,7 @@ use Rattle.cj_draft.specs.Arrives.{place_at}
 use Rattle.cj_calls.specs.declared.report.Look.{Look}
 use Rattle.cj_calls.specs.declared.report.Note.{Note}
 use Rattle.cj_activations.specs.Activations.{VersionFrame, Active, InBase, InVersion, Paused, BaseWaits, VersionWaits, Stacked}
+use Rattle.cj_calls.specs.declared.report.TheConstants.{MAX_NOTES}
 
 pub record State : Type 0 where
   pub stack : Stacked
@@ -142,9 +143,9 @@ passed s v next = record s {
   turns = s.turns + 1;
 }
 
--- the first 256 notes are kept
+-- the first notes are kept
 unfoldable pub keep_note : List Note → Note → List Note
-keep_note notes note = if nat_lt (length notes) 256 then notes ++ note ∷ [] else notes
+keep_note notes note = if nat_lt (length notes) MAX_NOTES then notes ++ note ∷ [] else notes
 
 -- a guard fails: base frames take the version's place, `back` base turns ago, which a note says
 unfoldable pub rebuilt : State → ℕ → Stack → State

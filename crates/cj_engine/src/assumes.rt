@@ -18,12 +18,9 @@ use crate::machine::Machine;
 use crate::steps::Step;
 use cj_activations::Activations;
 use cj_base::Turned;
-use cj_calls::{Note, Notes};
+use cj_calls::{MAX_NOTES, Note, Notes};
 use cj_draft::Point;
 use cj_ir::{Guard, Guards, Label, NoMemory};
-
-// How many notes are kept: the first ones of a run.
-const NOTES_KEPT: usize = 256;
 
 impl Machine {
     // An Assume: it passes, or base frames take the version's place.
@@ -94,7 +91,7 @@ fn take_place(activations: &mut Activations, notes: &mut Notes, note: Note) -> R
     ensures notes { OnOk result (notes.new ≡ keep_note notes.old note) }
     ensures no_memory { OnErr result ((activations.new ≡ activations.old) × (notes.new ≡ notes.old)) }
 {
-    if notes.items().len() < NOTES_KEPT {
+    if notes.items().len() < MAX_NOTES {
         keep(activations, notes, note)?;
     } else {
         activations.rebuild(&note.top, &note.waiting)?;

@@ -2,7 +2,9 @@
 
 ghost use Rattle.std.specs.Prelude.{◌≡◌, ◌≤◌, [], ◌++◌, length, map, vec_capacity, All, IfOk, OnOk, IsOk};
 ghost use Rattle.cj_ir.specs.Values.{operand_value, IsOperandWithin};
+ghost use Rattle.cj_draft.specs.declared.limits.TheConstants.{MAX_CODE_REGS};
 
+use cj_draft::limits::MAX_CODE_REGS;
 use cj_draft::{Pair, Pairs};
 use cj_ir::{NoMemory, Operand};
 use std::alloc::Global;
@@ -12,7 +14,7 @@ use std::alloc::Global;
 #[derive(Debug, Drop)]
 pub struct Scratch {
     values: Vec<i64>,
-    ghost room: { 128 ≤ vec_capacity values },
+    ghost room: { MAX_CODE_REGS ≤ vec_capacity values },
 }
 
 impl Scratch {
@@ -20,7 +22,7 @@ impl Scratch {
     pub fn new(alloc: Global) -> Result<Scratch, NoMemory>
         ensures { IfOk result (λ scratch. scratch.values.items ≡ []) }
     {
-        let values = Vec::with_capacity(alloc, 128)?;
+        let values = Vec::with_capacity(alloc, MAX_CODE_REGS as usize)?;
         Ok(Scratch { values })
     }
 
@@ -44,7 +46,7 @@ impl Scratch {
 
     /// Reads what a Move assigns. It takes no memory.
     pub fn read_pairs(&mut self, pairs: &Pairs, regs: &[i64])
-        requires few { length pairs.now ≤ 128 }
+        requires few { length pairs.now ≤ MAX_CODE_REGS }
         requires within { All (λ pair. IsOperandWithin (length regs.now) pair.value) pairs.now }
         ensures { self.new.values.items ≡ map (λ pair. operand_value regs.now pair.value) pairs.now }
     {

@@ -21,6 +21,7 @@ use crate::scratch::Scratch;
 use cj_activations::Activations;
 use cj_base::{End, Turned};
 use cj_draft::laws::assignments_are_few;
+use cj_draft::limits::MAX_CODE_REGS;
 use cj_draft::{Pair, Pairs, VInstr};
 use cj_ir::{Edge, FunId, Instr, Label, NoMemory, Operands, Reg};
 
@@ -112,7 +113,7 @@ impl Machine {
         scratch: &mut Scratch,
     ) -> Result<Step, NoMemory>
         requires early { IsEarly (state_of self.old) }
-        requires few { length (active_regs self.old.activations.top) ≤ 128 }
+        requires few { length (active_regs self.old.activations.top) ≤ MAX_CODE_REGS }
         requires back { CanGoBack self.old.base_turns instr.now }
         requires fine { (P : Program) × (labels : _) × IsVInstrFine P (length (active_regs self.old.activations.top)) labels instr.now }
         ensures made { IfOk result (λ step. IsVersionStep instr.now scratch.new.values.items (state_of self.old) (state_of self.new) step) }
@@ -188,14 +189,14 @@ impl Machine {
     // A Move: all its operands are read before the first register is written.
     fn assign(&mut self, pairs: &Pairs, next: Label, scratch: &mut Scratch) -> Turned
         requires early { IsEarly (state_of self.old) }
-        requires few { length (active_regs self.old.activations.top) ≤ 128 }
+        requires few { length (active_regs self.old.activations.top) ≤ MAX_CODE_REGS }
         requires pairs { ArePairsFine (length (active_regs self.old.activations.top)) pairs.now }
         ensures running { result ≡ Running }
         ensures made { state_of self.new ≡ went_on (state_of self.old) next
             (moved (active_regs self.old.activations.top) pairs.now (active_regs self.old.activations.top)) self.old.memory [] }
         ensures looks { self.new.looks ≡ self.old.looks }
     {
-        assignments_are_few(pairs, 128);
+        assignments_are_few(pairs, MAX_CODE_REGS);
         scratch.read_pairs(pairs, self.activations.top_registers());
         write_pairs(&mut self.activations, pairs.items(), scratch.items());
         self.go_to(next)
