@@ -1,6 +1,6 @@
 //! Devices that fail at any call, texts that are cut anywhere, and hints that are false in every way.
 
-use crate::checks::{answer, check, joined};
+use crate::tests::checks::{answer, check, joined};
 use cj_io::{MemSink, MemSource};
 use std::alloc::Global;
 use std::process::Abort;

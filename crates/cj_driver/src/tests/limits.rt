@@ -1,6 +1,6 @@
 //! The table of refusals, from bytes to bytes: each limit, and one past it.
 
-use crate::checks::{all_refused, check, functions, joined, numbered, refused, repeated};
+use crate::tests::checks::{all_refused, check, functions, joined, numbered, refused, repeated};
 use std::alloc::{AllocError, Global};
 use std::process::Abort;
 use std::test::Fail;
