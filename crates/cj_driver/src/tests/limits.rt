@@ -261,3 +261,18 @@ fn many_calls_and_turns(rt: HostRuntime) -> Result<(), Fail> {
     one_call_more(&rt, alloc, &calls)?;
     one_call_more(&rt, alloc, &repeated(alloc, "call main limit 1000000 ", 4)?)
 }
+
+#[test]
+fn lines_past_a_thousand(rt: HostRuntime) -> Result<(), Fail> {
+    let alloc = rt.alloc();
+    let empty = repeated(alloc, "\n", 1233)?;
+    accepted(&rt, alloc, &[MAIN, &empty])?;
+    refused(&rt, alloc, &[MAIN, &empty, "?"], "1235: Character")?;
+    let comments = repeated(alloc, "# a comment\r\n", 65_536)?;
+    refused(
+        &rt,
+        alloc,
+        &[&comments, "fun f() { } calls"],
+        "65537: NoEntry",
+    )
+}

@@ -133,6 +133,14 @@ const OFFENCES: &[(&str, &str)] = &[
         "1: Number",
     ),
     (
+        "fun main(n) { 1: return n } calls\ncall main 9223372036854775808 limit 9",
+        "2: Number",
+    ),
+    (
+        "fun main(n) { 1: return n } calls\nguess main n\n-9223372036854775809",
+        "3: Number",
+    ),
+    (
         "fun main() { 1: return 0 } calls\ncall main limit 0",
         "2: Range",
     ),
