@@ -26,18 +26,4 @@ pub use threads::top;
 pub use words::{WordsError, command_words};
 
 #[cfg(test)]
-mod bench;
-#[cfg(test)]
-mod checks;
-#[cfg(test)]
-mod hostile;
-#[cfg(test)]
-mod language;
-#[cfg(test)]
-mod limits;
-#[cfg(test)]
-mod replays;
-#[cfg(test)]
-mod sessions;
-#[cfg(test)]
 mod tests;

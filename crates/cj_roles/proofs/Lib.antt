@@ -3,6 +3,7 @@ pub mod Piles
 pub mod Calling
 pub mod Ending
 pub mod Dealt
+pub mod Turned
 pub mod Slotting
 pub mod Joins
 pub mod Standing

@@ -106,5 +106,9 @@ fn run_in_threads<R: Threads + Wait + Sync, G: Gate + Sync>(
         code: &store.code,
         profile: &store.profile,
     };
+    // Workers wait for all callers. Where no thread can be made for a part of the slots, it runs after the slots behind it: so the
+    // workers stand in front.
+    slots.reverse();
     run_slots(rt, alloc, &shared, gate, slots);
+    slots.reverse();
 }

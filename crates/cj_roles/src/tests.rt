@@ -3,76 +3,20 @@
 ghost use Rattle.std.specs.Prelude.{◌≡◌, ◌<◌, ◌≤◌, true, length};
 ghost use Rattle.cj_script.specs.Fitting.{FitsScript};
 
+mod holds;
+mod phases;
+mod stress;
+
 use crate::{TABLE_SIZE, run_roles};
 use cj_alone::alone_with;
 use cj_calls::Reports;
-use cj_io::{Gate, OpenGate};
+use cj_io::OpenGate;
 use cj_ir::{Input, NoMemory};
 use cj_text::parse;
+use holds::{gate_for, held_in_time};
 use std::alloc::Global;
 use std::process::Abort;
-use std::sync::atomic::{AtomicU32, Ordering};
 use std::test::Fail;
-use std::thread;
-
-// How often a caller that is held back lets other threads run before its test fails.
-const TURNS: u32 = 4_000_000;
-
-// A gate that holds one call back until another was answered and workers have found no work so many times since.
-#[derive(Drop)]
-struct Hold {
-    held: u32,
-    until: u32,
-    idles: u32,
-    answered: AtomicU32,
-    idle: AtomicU32,
-    in_time: AtomicU32,
-}
-
-fn gate_for(held: u32, until: u32, idles: u32) -> Hold {
-    Hold {
-        held,
-        until,
-        idles,
-        answered: AtomicU32::new(0),
-        idle: AtomicU32::new(0),
-        in_time: AtomicU32::new(0),
-    }
-}
-
-impl Gate for Hold {
-    fn before_call(&self, call: u32) {
-        if call != self.held {
-            return;
-        }
-        for _ in 0..TURNS {
-            if self.idle.load(Ordering::SeqCst) >= self.idles {
-                self.in_time.store(1, Ordering::SeqCst);
-                return;
-            }
-            thread::yield_now();
-        }
-    }
-
-    fn after_call(&self, call: u32) {
-        if call == self.until {
-            self.answered.store(1, Ordering::SeqCst);
-        }
-    }
-
-    fn idle(&self) {
-        if self.answered.load(Ordering::SeqCst) == 1
-            && self.idle.load(Ordering::SeqCst) < self.idles
-        {
-            self.idle.fetch_add(1, Ordering::SeqCst);
-        }
-        thread::yield_now();
-    }
-}
-
-fn held_in_time(gate: &Hold) -> bool {
-    gate.in_time.load(Ordering::SeqCst) == 1
-}
 
 // The same prints and the same end.
 fn are_alike(reports: &Reports, others: &Reports) -> bool {
@@ -145,11 +89,6 @@ const BANK: &[u8] =
     0 -> 5 5: cond s -> 6, 7 6: return 0 7: call t = deposit(b, v) -> 8 8: return 1 } fun total(; x, y) { 1:
     load x = [0] -> 2 2: load y = [1] -> 3 3: op x = x + y -> 4 4: return x } calls";
 
-const SEVERAL: &[u8] =
-    b"fun main(n; r) { 1: call r = twice(n) -> 2 2: call r = plus(r, n) -> 3 3: print r -> 4 4: return r }
-    fun twice(n; r) { 1: op r = n * 2 -> 2 2: return r }
-    fun plus(a, b; r) { 1: cond b -> 2, 4 2: op r = a + b -> 3 3: return r 4: return a } calls";
-
 // A program's text with these calls, each so many times.
 fn script(alloc: Global, program: &[u8], calls: &[(&[u8], u32)]) -> Result<Vec<u8>, Fail> {
     let mut text = Vec::new(alloc);
@@ -172,20 +111,6 @@ fn bank_in_threads_pays_as_on_one_thread(rt: HostRuntime) -> Result<(), Fail> {
     let text = script(rt.alloc(), BANK, &calls)?;
     let input = parse(rt.alloc(), text.as_slice())?;
     let (reports, _work, _store) = run_roles(&rt, rt.alloc(), &input, 2, 1, &OpenGate)?;
-    assert!(rt; are_alike(&reports, &alone(&rt, rt.alloc(), &input)?));
-    Ok(())
-}
-
-#[test]
-fn guards_fail_in_four_callers_beside_four_workers(rt: HostRuntime) -> Result<(), Fail> {
-    let calls: [(&[u8], u32); 3] = [
-        (b" call main 5 limit 1000", 120),
-        (b" call main 0 limit 1000", 20),
-        (b" call main 7 limit 1000", 40),
-    ];
-    let text = script(rt.alloc(), SEVERAL, &calls)?;
-    let input = parse(rt.alloc(), text.as_slice())?;
-    let (reports, _work, _store) = run_roles(&rt, rt.alloc(), &input, 4, 4, &OpenGate)?;
     assert!(rt; are_alike(&reports, &alone(&rt, rt.alloc(), &input)?));
     Ok(())
 }

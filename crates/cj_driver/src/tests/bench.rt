@@ -1,6 +1,6 @@
 //! The bench, whose input is generated.
 
-use crate::checks::{USAGE, check};
+use crate::tests::checks::{USAGE, check};
 use std::test::Fail;
 
 #[test]

@@ -59,7 +59,7 @@ pub(crate) fn functions(alloc: Global, count: u32) -> Result<String, AllocError>
 }
 
 // How the call of these words ends.
-fn ended(
+pub(crate) fn ended(
     alloc: Global,
     words: &[&str],
     source: &mut MemSource,
@@ -85,6 +85,14 @@ pub(crate) fn answer(
 ) -> Result<(u8, Vec<u8>), Fail> {
     let finish = ended(alloc, words, &mut source, &mut sink)?;
     Ok((finish.status, written(alloc, &sink, &finish)?))
+}
+
+// How a call with an input ends, with a source and a sink that never fail.
+pub(crate) fn finish_of(alloc: Global, words: &[&str], input: &[&str]) -> Result<Finish, Fail> {
+    let bytes = joined(alloc, input)?.into_bytes();
+    let mut source = MemSource::new(bytes, 1000, Vec::new(alloc));
+    let mut sink = MemSink::new(alloc, 1000, Vec::new(alloc));
+    ended(alloc, words, &mut source, &mut sink)
 }
 
 // What is written for an input, by a source and a sink that never fail.

@@ -1,6 +1,6 @@
 //! The table of refusals, from bytes to bytes: each limit, and one past it.
 
-use crate::checks::{all_refused, check, functions, joined, numbered, refused, repeated};
+use crate::tests::checks::{all_refused, check, functions, joined, numbered, refused, repeated};
 use std::alloc::{AllocError, Global};
 use std::process::Abort;
 use std::test::Fail;
@@ -260,4 +260,19 @@ fn many_calls_and_turns(rt: HostRuntime) -> Result<(), Fail> {
     check(&rt, alloc, &["alone"], &[MAIN, &calls], 0, &[&text])?;
     one_call_more(&rt, alloc, &calls)?;
     one_call_more(&rt, alloc, &repeated(alloc, "call main limit 1000000 ", 4)?)
+}
+
+#[test]
+fn lines_past_a_thousand(rt: HostRuntime) -> Result<(), Fail> {
+    let alloc = rt.alloc();
+    let empty = repeated(alloc, "\n", 1233)?;
+    accepted(&rt, alloc, &[MAIN, &empty])?;
+    refused(&rt, alloc, &[MAIN, &empty, "?"], "1235: Character")?;
+    let comments = repeated(alloc, "# a comment\r\n", 65_536)?;
+    refused(
+        &rt,
+        alloc,
+        &[&comments, "fun f() { } calls"],
+        "65537: NoEntry",
+    )
 }

@@ -1,6 +1,6 @@
 //! The examples of the language's reference, each instruction, operator, hint and end once.
 
-use crate::checks::check;
+use crate::tests::checks::check;
 use std::alloc::Global;
 use std::process::Abort;
 use std::test::Fail;

@@ -1,6 +1,6 @@
 //! Devices that fail at any call, texts that are cut anywhere, and hints that are false in every way.
 
-use crate::checks::{answer, check, joined};
+use crate::tests::checks::{answer, check, joined};
 use cj_io::{MemSink, MemSource};
 use std::alloc::Global;
 use std::process::Abort;
@@ -97,7 +97,8 @@ const VALUES: &[&str] = &[
     "9223372036854775807",
 ];
 
-// Checks that the calls of a program write the same, whatever is guessed of n and whichever edge of line 1 is cold.
+// Checks that the calls of a program write the same as without setups, whatever is guessed of n and whichever edge of line 1
+// is cold.
 fn hints_are_harmless(
     rt: &impl Abort,
     alloc: Global,
@@ -106,6 +107,7 @@ fn hints_are_harmless(
     calls: &str,
     text: &str,
 ) -> Result<(), Fail> {
+    check(rt, alloc, &["alone"], &[program, calls], 0, &[text])?;
     for value in VALUES {
         for edge in edges {
             for level in &["warm main 1 ", "warm main 2 "] {

@@ -1,6 +1,6 @@
 //! Worked replays, from bytes to bytes.
 
-use crate::checks::check;
+use crate::tests::checks::check;
 use std::alloc::Global;
 use std::process::Abort;
 use std::test::Fail;

@@ -1,6 +1,6 @@
 //! Worked scripts whose calls enter versions, from bytes to bytes, on one thread and by callers and workers.
 
-use crate::checks::{check, check_team};
+use crate::tests::checks::{check, check_team};
 use std::alloc::Global;
 use std::process::Abort;
 use std::test::Fail;
@@ -90,7 +90,7 @@ fn a_team_answers_as_one_thread_does(rt: HostRuntime) -> Result<(), Fail> {
 
 #[test]
 fn a_team_has_1_to_4_callers_and_0_to_4_workers(rt: HostRuntime) -> Result<(), Fail> {
-    let usage = [crate::checks::USAGE];
+    let usage = [crate::tests::checks::USAGE];
     for words in &[
         ["run", "0", "1"],
         ["run", "5", "1"],
