@@ -1,0 +1,6 @@
+//! Constant propagation by losses: the strongest constant facts of a draft, found by looking again only at labels that read
+//! a register whose fact was lost, and the draft folded over them.
+#![tactic(auto)]
+
+pub mod instructions;
+pub mod search;
