@@ -1,2 +1,3 @@
 pub mod Forgetting
 pub mod Lowering
+pub mod Meetings
