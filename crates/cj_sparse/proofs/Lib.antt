@@ -1,3 +1,4 @@
 pub mod Forgetting
 pub mod Lowering
 pub mod Meetings
+pub mod Passing
