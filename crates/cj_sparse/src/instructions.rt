@@ -1,11 +1,13 @@
 //! What instructions read and assign, and where they go on.
 
-ghost use Rattle.std.specs.Prelude.{◌≡◌, ◌==◌, All, IfOk, length};
+ghost use Rattle.std.specs.Prelude.{◌≡◌, ◌==◌, All, IfOk, Some, length};
 ghost use Rattle.std.specs.List.{list_any};
 ghost use Rattle.std.specs.Option.{is_some};
 ghost use Rattle.cj_ir.specs.Values.{expr_operands};
-ghost use Rattle.cj_const.specs.Knowledge.{known};
-ghost use Rattle.cj_const.specs.Flow.{leaves};
+ghost use Rattle.cj_ir.specs.declared.language.Reg.{Reg};
+ghost use Rattle.cj_draft.specs.WellNamed.{IsGuardWithin};
+ghost use Rattle.cj_const.specs.Knowledge.{known, known_value, folded_operands, evaluated};
+ghost use Rattle.cj_const.specs.Flow.{after_op, along, with_guards, leaves};
 ghost use Rattle.cj_const.specs.Search.{WritesWithin};
 ghost use Rattle.cj_sparse.specs.Reading.{is_register, is_guarded, reads, assigns};
 
@@ -93,5 +95,55 @@ pub(crate) fn assigns(instr: &VInstr, reg: Reg) -> bool
         }
         VInstr::Move { pairs, .. } => is_dest(pairs.items(), reg),
         _ => false,
+    }
+}
+
+/// Whether an expression may have a value over what the row knows.
+#[tactic(auto, unfolding(cj_const::specs::Flow::after_op))]
+fn may_have_value(row: &Row, expr: &Expr) -> bool
+    ensures { (dest : Reg) → result ≡ is_some (after_op (known row.now) dest (evaluated (folded_operands (known row.now) expr.now))) }
+{
+    match evaluated(&folded_operands(row.items(), expr)) {
+        Outcome::ZeroDivisor => false,
+        Outcome::Unknown | Outcome::Value(_) => true,
+    }
+}
+
+/// Whether a cond with this test may go on to a label.
+#[tactic(auto, unfolding(cj_const::specs::Flow::along))]
+fn may_take(row: &Row, test: &Operand, then_to: Label, else_to: Label, to: Label) -> bool
+    ensures { result ≡ is_some (along (known row.now) (known_value (known row.now) test.now) then_to else_to to) }
+{
+    match known_value(row.items(), test) {
+        None => true,
+        Some(value) => branch(value, then_to, else_to).0 == to.0,
+    }
+}
+
+/// Whether all of the guards may hold.
+fn may_hold(row: &Row, guards: &[Guard]) -> Result<bool, NoMemory>
+    requires { All (IsGuardWithin (length row.now)) guards.now }
+    ensures { IfOk result (λ holds. holds ≡ is_some (with_guards guards.now (Some (known row.now)))) }
+{
+    let made = with_guards(row, guards)?;
+    Ok(made.is_some())
+}
+
+/// Whether anything leaves the instruction along its edge to a label.
+#[tactic(auto, unfolding(cj_const::specs::Flow::leaves))]
+pub(crate) fn goes_on(row: &Row, instr: &VInstr, to: Label) -> Result<bool, NoMemory>
+    requires { WritesWithin (length row.now) instr.now }
+    ensures { IfOk result (λ live. live ≡ is_some (leaves (known row.now) instr.now to)) }
+{
+    match *instr {
+        VInstr::Op { ref expr, .. } => Ok(may_have_value(row, expr)),
+        VInstr::Cond {
+            ref test,
+            then_to,
+            else_to,
+        } => Ok(may_take(row, test, then_to, else_to, to)),
+        VInstr::Assume { ref guards, .. } => may_hold(row, guards.items()),
+        VInstr::Return { .. } | VInstr::Fail { .. } => Ok(false),
+        _ => Ok(true),
     }
 }
