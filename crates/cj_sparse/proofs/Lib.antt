@@ -2,3 +2,4 @@ pub mod Forgetting
 pub mod Lowering
 pub mod Meetings
 pub mod Passing
+pub mod SearchCalls

@@ -46,12 +46,12 @@ same-agree None other v e e' = absurd (none-some v e)
 same-agree (Some w) None v e e' = absurd (none-some v e')
 same-agree (Some w) (Some u) v e e' = (Decides-int_eq w u).1 (same_Some w v e ∙ sym (same_Some u v e'))
 
-differ-known : (s other : Option ℤ) → agrees s other ≡ false → (v : ℤ) × (s ≡ Some v)
+pub differ-known : (s other : Option ℤ) → agrees s other ≡ false → (v : ℤ) × (s ≡ Some v)
 unfolding agrees
 differ-known None other no_ = absurd (cc)
 differ-known (Some v) other no_ = (v, refl)
 
-known-inside : (row : Row) (r : ℕ) (v : ℤ) → known row r ≡ Some v → r < length row
+pub known-inside : (row : Row) (r : ℕ) (v : ℤ) → known row r ≡ Some v → r < length row
 unfolding known
 known-inside row r v e = ⊎_elim
     (λ below. below)

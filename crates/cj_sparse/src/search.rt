@@ -172,6 +172,49 @@ impl Search {
         }
         self.pass_all(draft, label, to)
     }
+
+    /// Passes an item along these edges of its label.
+    fn follow(
+        &mut self,
+        draft: &Draft<'_>,
+        item: Work,
+        nexts: Successors,
+    ) -> Result<(), NoMemory>
+        requires begun { IsBegun draft.now.context draft.now.code self.old.rows.items self.old.work.items }
+        requires item { IsItem draft.now.code self.old.rows.items item }
+        requires edges { All (IsEdge draft.now.code (label_of item)) (listed nexts) }
+        requires rest { All (IsPassed draft.now.code self.old.rows.items (item ∷ self.old.work.items) (label_of item)) (listed nexts) }
+        ensures goes { OnOk result (GoesOn draft.now.context draft.now.code self.old.rows.items self.old.work.items self.new.rows.items self.new.work.items) }
+        ensures passed { OnOk result (All (IsPassed draft.now.code self.new.rows.items self.new.work.items (label_of item)) (listed nexts)) }
+    {
+        match nexts {
+            Successors::End => Ok(()),
+            Successors::One { next } => {
+                self.pass(draft, item, next)?;
+                Ok(())
+            }
+            Successors::Two { then_to, else_to } => {
+                self.pass(draft, item, then_to)?;
+                self.pass(draft, item, else_to)?;
+                Ok(())
+            }
+        }
+    }
+
+    /// Passes the longest waiting item along the edges of its label. `false`: none waits.
+    fn step(&mut self, draft: &Draft<'_>) -> Result<bool, NoMemory>
+        requires { IsSearch draft.now.context draft.now.code self.old.rows.items self.old.work.items }
+        ensures search { OnOk result (IsSearch draft.now.context draft.now.code self.new.rows.items self.new.work.items) }
+        ensures done { IfOk result (λ more. more ≡ false → self.new.work.items ≡ []) }
+        ensures work { IfOk result (λ more. more ≡ true → work_left draft.now.code.regs self.new.rows.items self.new.work.items < work_left draft.now.code.regs self.old.rows.items self.old.work.items) }
+    {
+        let Some(item) = self.work.pop_front() else {
+            return Ok(false);
+        };
+        let place = &draft.code().places.items()[item.label().0 as usize];
+        self.follow(draft, item, place.instr.successors())?;
+        Ok(true)
+    }
 }
 
 /// Lets nothing be known of a register at a label, where a value is known and not this one. `false`: nothing changes.
@@ -200,4 +243,16 @@ fn unreached(alloc: Global, labels: usize) -> Result<Vec<Option<Row>>, NoMemory>
         rows.push(None)?;
     }
     Ok(rows)
+}
+
+/// The strongest constant facts of the draft: those at each label which hold whenever a run comes there, whatever the
+/// memory and the values that calls return. They are consistent with the draft's instructions and context, and every
+/// consistent table says no more at any label. `Unreached`: no run comes to the label.
+pub fn strongest(alloc: Global, draft: &Draft<'_>) -> Result<FactTable, NoMemory>
+    ensures { IfOk result (IsStrongest draft.now.context draft.now.code) }
+{
+    let mut search = Search::begin(alloc, draft)?;
+    while search.step(draft)? {}
+    let table = table_of(alloc, search.rows.as_slice(), draft.code().regs)?;
+    Ok(table)
 }
