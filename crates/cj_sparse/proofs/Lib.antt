@@ -3,3 +3,4 @@ pub mod Lowering
 pub mod Meetings
 pub mod Passing
 pub mod SearchCalls
+pub mod SearchEnds

@@ -189,7 +189,7 @@ module _ (context : List Fact) (code : Code) (rows : Rows) (work : List Work) (b
 -- ---- a label is reached
 
 pub row-reached : (context : List Fact) (code : Code) (rows : Rows) (work : List Work) (to : Label) (row : Row) → IsBegun context code rows work → to.0 < length code.places → length row ≡ code.regs → IsAbove context code to (known row) → slice_index_or rows to.0 None ≡ None → GoesOn context code rows work (slice_set rows to.0 (Some row)) (work ++ Reached to ∷ [])
-unfolding rank label_of
+unfolding rank
 row-reached context code rows work to row begun within width above none =
     let few = count_by-le-length is_known row in
     let before : rank code.regs (slice_index_or rows to.0 None) ≡ code.regs + 1 = ap (rank code.regs) none in

@@ -102,7 +102,7 @@ module _ (context : List Fact) (code : Code) (rows rows' : Rows) (work work' : L
   inside = omega (arith, within, begun.found.count)
 
   lost-goes : (o : Option Row) → slice_index_or rows to.0 None ≡ o → agrees (slot_in o reg.0) other ≡ false → GoesOn context code rows work (slice_set rows to.0 (forgotten reg.0 o)) (work ++ Lost to reg ∷ [])
-  unfolding slot_in agrees forgotten rank label_of
+  unfolding slot_in agrees forgotten rank
   lost-goes None e no_ = absurd (cc)
   lost-goes (Some row) e no_ =
       let told = differ-known (known row reg.0) other no_ in

@@ -78,7 +78,7 @@ same-without work label reg before k none same = λ r. ⊎_elim
 waits-still : (work : List Work) (label : Label) (reg : Reg) → Contains (Lost label reg ∷ work) (Reached label) → Contains work (Reached label)
 waits-still work label reg c = ⊎_elim (λ this. absurd (reached-lost label label reg this)) (λ rest. rest) (contains-cases (Lost label reg) (Reached label) work c)
 
-lost-none : (rows : Rows) (label : Label) (reg : Reg) (k : Knowledge) → IsLostAt rows (Lost label reg) → reached_at rows label ≡ Some k → k reg.0 ≡ None
+pub lost-none : (rows : Rows) (label : Label) (reg : Reg) (k : Knowledge) → IsLostAt rows (Lost label reg) → reached_at rows label ≡ Some k → k reg.0 ≡ None
 lost-none rows label reg k lost here = ap (λ (j : Knowledge). j reg.0) (same_Some k lost.0 (sym here ∙ lost.1)) ∙ lost.2
 
 pub rests-assigned : (rows : Rows) (work : List Work) (instr : VInstr) (label to : Label) (reg : Reg) → IsLostAt rows (Lost label reg) → reads instr reg.0 ≡ false → assigns instr reg.0 ≡ true → EdgeRests rows (Lost label reg ∷ work) instr label to → EdgeRests rows work instr label to

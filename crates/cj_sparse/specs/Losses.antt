@@ -18,7 +18,7 @@ use Rattle.cj_sparse.specs.declared.search.Work.TheVariants.{Reached, Lost}
 
 -- ---- what waits
 
-unfoldable pub label_of : Work → Label
+abbrev pub label_of : Work → Label
 label_of (Reached label) = label
 label_of (Lost label reg) = label
 

@@ -32,7 +32,6 @@ pub enum Work {
 
 impl Work {
     /// The label along whose edges it is to be passed.
-    #[tactic(auto, unfolding(crate::specs::Losses::label_of))]
     fn label(&self) -> Label
         ensures { result ≡ label_of self.now }
     {
