@@ -1,11 +1,11 @@
 -- The calls of the sparse search.
-use Rattle.std.proofs.Common.{◌≡◌, ◌≢◌, ℕ, ◌<◌, ◌≤◌, ◌⊎◌, Bool, true, false, not, List, [], ◌∷◌, ◌++◌, length, get_or, Option, Some, None, refl, sym, ap, ◌∙◌, subst, inl, inr, ⊎_elim, arith}
+use Rattle.std.proofs.Common.{◌≡◌, ◌≢◌, ℕ, ◌+◌, ◌<◌, ◌≤◌, ◌⊎◌, Bool, true, false, not, List, [], ◌∷◌, ◌++◌, length, get_or, Option, Some, None, refl, sym, ap, ◌∙◌, subst, inl, inr, ⊎_elim, arith}
 use Rattle.std.specs.Prelude.{ℤ, All, Contains, slice_index_or, slice_set}
 use Rattle.std.specs.Option.{is_some, option_map, option_to_list}
 use Rattle.std.proofs.lemmas.Option.{none-some, same_Some}
 use Rattle.std.proofs.lemmas.Bool.{cases_eq}
 use Rattle.std.proofs.lemmas.List.{set-get_or}
-use Rattle.std.proofs.lemmas.List.Elements.{All-contains, All-cons, All-nil}
+use Rattle.std.proofs.lemmas.List.Elements.{All-contains, All-get_or}
 use Rattle.cj_ir.specs.declared.language.Label.{Label}
 use Rattle.cj_ir.specs.declared.language.Program.{Program}
 use Rattle.cj_ir.specs.declared.language.Reg.{Reg}
@@ -22,14 +22,14 @@ use Rattle.cj_draft.specs.WellNamed.{IsPlaceFine}
 use Rattle.cj_draft.proofs.EdgeLemmas.{successor_within}
 use Rattle.cj_const.specs.Knowledge.{Knowledge, known}
 use Rattle.cj_const.specs.Flow.{leaves}
-use Rattle.cj_const.specs.Search.{SaysLess, reached_at, agrees}
+use Rattle.cj_const.specs.Search.{SaysLess, HasWidth, reached_at, agrees}
 use Rattle.cj_const.proofs.SearchCalls.{read-at}
 use Rattle.cj_sparse.specs.declared.search.Work.{Work}
 use Rattle.cj_sparse.specs.declared.search.Work.TheVariants.{Reached, Lost}
 use Rattle.cj_sparse.specs.Reading.{reads, assigns}
-use Rattle.cj_sparse.specs.Losses.{label_of, EdgeRests, IsPassed, IsItem, IsBegun, IsSearch, LowersAt, Lowers, work_left, GoesOn, IsAbove, slot_at, slot_in, HasMet}
-use Rattle.cj_sparse.proofs.Lowering.{lowers-self, rests-lowered}
-use Rattle.cj_sparse.proofs.Meetings.{differ-known, known-inside, met-goes}
+use Rattle.cj_sparse.specs.Losses.{label_of, EdgeRests, IsPassed, IsItem, IsBegun, IsSearch, LowersAt, Lowers, work_left, GoesOn, IsAbove, slot_at, slot_in, HasMet, AreMet}
+use Rattle.cj_sparse.proofs.Lowering.{goes-trans, rests-lowered, row-reached}
+use Rattle.cj_sparse.proofs.Meetings.{differ-known, known-inside, met-goes, met-more}
 use Rattle.cj_sparse.proofs.Passing.{above-next, lost-leaves, lost-none, rests-lost}
 
 abbrev Row : Type 0
@@ -175,3 +175,31 @@ module _ (context : List Fact) (code : Code) (rows : Rows) (work rest : List Wor
       let left : work_left code.regs rows' work' ≤ work_left code.regs rows rest = goes.left in
       let one : length work ≡ length (item ∷ rest) = ap length is in
       omega (arith, left, one)
+
+-- ---- what arrives
+
+pub reached-goes : (context : List Fact) (code : Code) (rows rows' : Rows) (work work' : List Work) (to : Label) (row : Row) → IsBegun context code rows work → to.0 < length code.places → length row ≡ code.regs → IsAbove context code to (known row) → slice_index_or rows to.0 None ≡ None → rows' ≡ slice_set rows to.0 (Some row) → work' ≡ work ++ Reached to ∷ [] → GoesOn context code rows work rows' work'
+reached-goes context code rows rows' work work' to row begun within width above none made pushed =
+    subst (λ (r : Rows). GoesOn context code rows work r work') (sym made)
+    (subst (GoesOn context code rows work (slice_set rows to.0 (Some row))) (sym pushed) (row-reached context code rows work to row begun within width above none))
+
+pub arrive-step : (context : List Fact) (code : Code) (rows rows' rows'' : Rows) (work work' work'' : List Work) (to : Label) (reg : Reg) (other : Option ℤ) (arrival items : Row) → to.0 < length code.places → IsAbove context code to (known arrival) → GoesOn context code rows work rows' work' → AreMet rows' to arrival reg.0 → HasMet rows' work' to reg other rows'' work'' → other ≡ known items reg.0 → items ≡ arrival → GoesOn context code rows work rows'' work'' × AreMet rows'' to arrival (reg.0 + 1)
+arrive-step context code rows rows' rows'' work work' work'' to reg other arrival items within above goes before met is same =
+    let told : other ≡ known arrival reg.0 = is ∙ ap (λ (r : Row). known r reg.0) same in
+    let step = met-goes context code rows' rows'' work' work'' to reg other goes.begun within (known arrival) above (sym told) met in
+    (
+      goes-trans context code rows rows' rows'' work work' work'' goes step,
+      met-more rows' rows'' work' work'' to reg other arrival reg.0 (omega (arith, within, goes.begun.found.count)) step.lowers met refl told before,
+    )
+
+row-inside : (n : ℕ) (o : Option Row) (k : Knowledge) (r : ℕ) (v : ℤ) → HasWidth n o → option_map known o ≡ Some k → k r ≡ Some v → r < n
+row-inside n None k r v wide here e = absurd (none-some k here)
+row-inside n (Some row) k r v wide here e = subst (λ m. r < m) wide (known-inside row r v (ap (λ (j : Knowledge). j r) (same_Some (known row) k here) ∙ e))
+
+pub arrive-told : (context : List Fact) (code : Code) (rows : Rows) (work : List Work) (to : Label) (arrival : Row) (n : ℕ) → IsBegun context code rows work → to.0 < length code.places → code.regs ≤ n → AreMet rows to arrival n → SaysLess (reached_at rows to) (Some (known arrival))
+arrive-told context code rows work to arrival n begun within all met =
+    let inside : to.0 < length rows = omega (arith, within, begun.found.count) in
+    let wide : HasWidth code.regs (slice_index_or rows to.0 None) = All-get_or (HasWidth code.regs) rows to.0 None inside begun.found.widths in
+    subst (λ o. SaysLess o (Some (known arrival))) (sym met.1) (λ r v e.
+    let low = row-inside code.regs (slice_index_or rows to.0 None) met.0 r v wide met.1 e in
+    met.2 r v (omega (arith, low, all)) e)
