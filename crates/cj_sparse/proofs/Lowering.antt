@@ -1,32 +1,25 @@
 -- How a search goes on: what is known at labels becomes less, and that waits.
-use Rattle.std.proofs.Common.{◌≡◌, ◌≢◌, ℕ, ◌+◌, ◌*◌, ◌<◌, ◌≤◌, ◌⊎◌, Bool, true, false, cond, List, [], ◌∷◌, ◌++◌, length, Option, Some, None, refl, sym, ap, ◌∙◌, subst, inl, inr, ⊎_elim, arith, length-set, length-append}
-use Rattle.std.specs.Prelude.{ℤ, All, Contains, ⊤, count_by, sum_by, slice_set, slice_index_or}
+use Rattle.std.proofs.Common.{◌≡◌, ◌+◌, ◌<◌, ◌⊎◌, List, [], ◌∷◌, ◌++◌, length, Option, Some, None, refl, sym, ap, ◌∙◌, subst, inl, inr, ⊎_elim, arith, length-set, length-append}
+use Rattle.std.specs.Prelude.{ℤ, Contains, ⊤, slice_set, slice_index_or}
 use Rattle.std.specs.Option.{option_map}
 use Rattle.std.proofs.lemmas.Option.{none-some, same_Some}
-use Rattle.std.proofs.lemmas.Bool.{cases_eq, cases_lt}
-use Rattle.std.proofs.lemmas.Bool.Decides.{Decides-int_eq}
-use Rattle.std.proofs.lemmas.List.{get_or_past, get_or-set_same, get_or-set_other}
+use Rattle.std.proofs.lemmas.Bool.{cases_eq}
 use Rattle.std.proofs.lemmas.List.Sums.{sum_by-set, count_by-le-length}
-use Rattle.std.proofs.lemmas.List.Elements.{All-contains, All-weaker, All-set, All-get_or, Contains-append_left, Contains-append_right, Contains-append_cases}
+use Rattle.std.proofs.lemmas.List.Elements.{All-set, Contains-append_left, Contains-append_right, Contains-append_cases}
 use Rattle.cj_ir.specs.declared.language.Label.{Label}
-use Rattle.cj_ir.specs.declared.language.Reg.{Reg}
-use Rattle.cj_ir.proofs.Members.{contains-none, contains-one, contains-head, contains-cases, all-from_contains}
+use Rattle.cj_ir.proofs.Members.{contains-one, contains-head}
 use Rattle.cj_ir.proofs.Labels.{same_label}
 use Rattle.cj_draft.specs.declared.facts.Fact.{Fact}
 use Rattle.cj_draft.specs.declared.facts.Facts.{Facts}
-use Rattle.cj_draft.specs.declared.facts.Facts.TheVariants.{Unreached, Known}
 use Rattle.cj_draft.specs.declared.instructions.VInstr.{VInstr}
-use Rattle.cj_draft.specs.declared.code.Place.{Place}
 use Rattle.cj_draft.specs.declared.code.Code.{Code}
-use Rattle.cj_const.specs.Knowledge.{Knowledge, told_by, with_known, known}
+use Rattle.cj_const.specs.Knowledge.{Knowledge, told_by, known}
 use Rattle.cj_const.specs.Flow.{leaves, facts_at, IsWithin, IsConsistent}
-use Rattle.cj_const.specs.Search.{AreRows, TellsNoMore, SaysLess, HasWidth, reached_at, agrees, is_known, rank}
-use Rattle.cj_const.proofs.Rows.{known-set}
-use Rattle.cj_const.proofs.Monotone.{at-written, at-other}
-use Rattle.cj_const.proofs.SearchSteps.{less-self, reached-same, reached-other}
+use Rattle.cj_const.specs.Search.{AreRows, TellsNoMore, SaysLess, HasWidth, reached_at, is_known, rank}
+use Rattle.cj_const.proofs.SearchSteps.{reached-same, reached-other}
 use Rattle.cj_sparse.specs.declared.search.Work.{Work}
 use Rattle.cj_sparse.specs.declared.search.Work.TheVariants.{Reached, Lost}
-use Rattle.cj_sparse.specs.Losses.{label_of, SameOrLost, EdgeRests, IsLostAt, IsItem, IsBegun, LowersAt, Lowers, work_left, GoesOn, IsAbove, slot_at, slot_in, forgotten, HasMet}
+use Rattle.cj_sparse.specs.Losses.{SameOrLost, EdgeRests, IsLostAt, IsItem, IsBegun, LowersAt, Lowers, work_left, GoesOn, IsAbove}
 
 abbrev Row : Type 0
 Row = List (Option ℤ)

@@ -1,6 +1,6 @@
 -- A register's value that arrives at a label.
-use Rattle.std.proofs.Common.{◌≡◌, ◌≢◌, ℕ, ◌+◌, ◌<◌, ◌≤◌, ◌⊎◌, Bool, true, false, cond, List, [], ◌∷◌, ◌++◌, length, Option, Some, None, refl, sym, ap, ◌∙◌, subst, inl, inr, ⊎_elim, arith, length-set, get_or}
-use Rattle.std.specs.Prelude.{ℤ, All, Contains, count_by, slice_set, slice_index_or}
+use Rattle.std.proofs.Common.{◌≡◌, ℕ, ◌+◌, ◌<◌, Bool, true, false, cond, List, [], ◌∷◌, ◌++◌, length, Option, Some, None, refl, sym, ap, ◌∙◌, subst, inl, inr, ⊎_elim, arith, length-set, get_or}
+use Rattle.std.specs.Prelude.{ℤ, Contains, count_by, slice_set, slice_index_or}
 use Rattle.std.specs.Option.{option_map}
 use Rattle.std.proofs.lemmas.Option.{none-some, same_Some}
 use Rattle.std.proofs.lemmas.Bool.{cases_eq, cases_lt}
@@ -15,15 +15,15 @@ use Rattle.cj_draft.specs.declared.facts.Fact.{Fact}
 use Rattle.cj_draft.specs.declared.facts.Facts.{Facts}
 use Rattle.cj_draft.specs.declared.facts.Facts.TheVariants.{Unreached, Known}
 use Rattle.cj_draft.specs.declared.code.Code.{Code}
-use Rattle.cj_const.specs.Knowledge.{Knowledge, with_known, known}
-use Rattle.cj_const.specs.Flow.{facts_at, IsWithin, IsConsistent}
+use Rattle.cj_const.specs.Knowledge.{Knowledge, known}
+use Rattle.cj_const.specs.Flow.{facts_at, IsWithin}
 use Rattle.cj_const.specs.Search.{HasWidth, reached_at, agrees, is_known, rank}
 use Rattle.cj_const.proofs.Rows.{known-set}
 use Rattle.cj_const.proofs.Monotone.{at-written, at-other}
 use Rattle.cj_const.proofs.SearchSteps.{reached-same}
 use Rattle.cj_sparse.specs.declared.search.Work.{Work}
-use Rattle.cj_sparse.specs.declared.search.Work.TheVariants.{Reached, Lost}
-use Rattle.cj_sparse.specs.Losses.{label_of, SameOrLost, IsItem, IsBegun, LowersAt, Lowers, work_left, GoesOn, IsAbove, slot_at, slot_in, forgotten, HasMet, AreMet}
+use Rattle.cj_sparse.specs.declared.search.Work.TheVariants.{Lost}
+use Rattle.cj_sparse.specs.Losses.{SameOrLost, IsBegun, LowersAt, Lowers, GoesOn, IsAbove, slot_at, slot_in, forgotten, HasMet, AreMet}
 use Rattle.cj_sparse.proofs.Lowering.{goes-self, row-written, still-reached}
 
 abbrev Row : Type 0
@@ -160,8 +160,11 @@ met-told rows rows' work work' to reg other k inside met here v e = ⊎_elim
 -- one register more has met
 pub met-more : (rows rows' : Rows) (work work' : List Work) (to : Label) (reg : Reg) (other : Option ℤ) (arrival : Row) (n : ℕ) → to.0 < length rows → Lowers rows work rows' work' → HasMet rows work to reg other rows' work' → reg.0 ≡ n → other ≡ known arrival n → AreMet rows to arrival n → AreMet rows' to arrival (n + 1)
 met-more rows rows' work work' to reg other arrival n inside lowers met at is before =
-    let now = still-reached rows rows' work work' to before.0 lowers before.1 in
-    (now.0, now.1, λ r v h e. ⊎_elim
-    (λ same. ap (known arrival) same ∙ sym is ∙ met-told rows rows' work work' to reg other now.0 inside met now.1 v (ap now.0 (at ∙ sym same) ∙ e))
-    (λ other. before.2 r v (omega arith) (⊎_elim (λ is. sym is ∙ e) (λ lost. absurd (none-some v (sym lost.1 ∙ e))) (now.2 r)))
-    (cases_eq r n))
+    let now = still-reached rows rows' work work' to before.0 lowers before.1 in (
+      now.0,
+      now.1,
+      λ r v h e. ⊎_elim
+          (λ same. ap (known arrival) same ∙ sym is ∙ met-told rows rows' work work' to reg other now.0 inside met now.1 v (ap now.0 (at ∙ sym same) ∙ e))
+          (λ other. before.2 r v (omega arith) (⊎_elim (λ is. sym is ∙ e) (λ lost. absurd (none-some v (sym lost.1 ∙ e))) (now.2 r)))
+          (cases_eq r n),
+    )

@@ -1,30 +1,29 @@
 -- What is passed along an edge, after which the edge rests.
-use Rattle.std.proofs.Common.{◌≡◌, ◌≢◌, ℕ, ◌<◌, ◌⊎◌, Bool, true, false, List, [], ◌∷◌, length, Option, Some, None, refl, sym, ap, ◌∙◌, subst, inl, inr, ⊎_elim, arith}
-use Rattle.std.specs.Prelude.{ℤ, All, Contains, slice_index_or}
+use Rattle.std.proofs.Common.{◌≡◌, ℕ, ◌<◌, true, false, List, ◌∷◌, length, Option, Some, None, refl, sym, ap, ◌∙◌, subst, inl, inr, ⊎_elim}
+use Rattle.std.specs.Prelude.{ℤ, Contains}
 use Rattle.std.specs.Option.{option_map}
 use Rattle.std.proofs.lemmas.Option.{none-some, same_Some}
-use Rattle.std.proofs.lemmas.Bool.{cases_eq, cases_lt}
+use Rattle.std.proofs.lemmas.Bool.{cases_eq}
 use Rattle.cj_ir.specs.declared.language.Label.{Label}
 use Rattle.cj_ir.specs.declared.language.Reg.{Reg}
-use Rattle.cj_ir.proofs.Members.{contains-cases, contains-tail}
+use Rattle.cj_ir.proofs.Members.{contains-cases}
 use Rattle.cj_draft.specs.declared.facts.Fact.{Fact}
-use Rattle.cj_draft.specs.declared.facts.Facts.{Facts}
 use Rattle.cj_draft.specs.declared.instructions.VInstr.{VInstr}
 use Rattle.cj_draft.specs.declared.code.Place.{Place}
 use Rattle.cj_draft.specs.declared.code.Code.{Code}
 use Rattle.cj_draft.specs.Arrives.{place_at}
 use Rattle.cj_draft.specs.Edges.{successors}
-use Rattle.cj_const.specs.Knowledge.{Knowledge, with_known, known}
-use Rattle.cj_const.specs.Flow.{leaves, facts_at, IsWithin, IsConsistent}
-use Rattle.cj_const.specs.Search.{TellsNoMore, SaysLess, reached_at}
+use Rattle.cj_const.specs.Knowledge.{Knowledge}
+use Rattle.cj_const.specs.Flow.{leaves, facts_at, IsWithin}
+use Rattle.cj_const.specs.Search.{SaysLess, reached_at}
 use Rattle.cj_const.proofs.Monotone.{at-written, at-other}
 use Rattle.cj_const.proofs.SearchSteps.{arrives-above}
 use Rattle.cj_sparse.specs.declared.search.Work.{Work}
 use Rattle.cj_sparse.specs.declared.search.Work.TheVariants.{Reached, Lost}
 use Rattle.cj_sparse.specs.Reading.{reads, assigns}
-use Rattle.cj_sparse.specs.Losses.{label_of, SameOrLost, EdgeRests, IsLostAt, IsItem, IsBegun, Lowers, GoesOn, IsAbove, HasMet}
+use Rattle.cj_sparse.specs.Losses.{SameOrLost, EdgeRests, IsLostAt, IsBegun, Lowers, IsAbove, HasMet}
 use Rattle.cj_sparse.proofs.Forgetting.{without, without-unknown, leaves-forgets, leaves-assigned}
-use Rattle.cj_sparse.proofs.Lowering.{same-self, same-less, same-trans, lowered-at, still-reached, at-less}
+use Rattle.cj_sparse.proofs.Lowering.{same-self, same-less, same-trans, lowered-at, still-reached}
 use Rattle.cj_sparse.proofs.Meetings.{met-told}
 
 abbrev Row : Type 0
@@ -116,7 +115,7 @@ rests-lost rows rows' work work' instr label to reg k inside was none no_ not me
     (λ old. inr (
       without reg.0 old.0,
       subst (SaysLess (reached_at rows' to)) (sym (leaves-forgets old.0 reg.0 instr to no_ not))
-      (less-without rows rows' work work' to reg (leaves old.0 instr to) lowers (λ j at v e. met-told rows rows' work work' to reg None j inside met at v e) old.1),
+          (less-without rows rows' work work' to reg (leaves old.0 instr to) lowers (λ j at v e. met-told rows rows' work work' to reg None j inside met at v e) old.1),
       same-trans work work' label (without reg.0 old.0) k k' lowers.still (same-without work label reg old.0 k none old.2) (lowered-at rows rows' work work' label k k' lowers was here),
     ))
     (rests k was)

@@ -1,5 +1,5 @@
 -- The calls of the sparse search.
-use Rattle.std.proofs.Common.{◌≡◌, ◌≢◌, ℕ, ◌+◌, ◌<◌, ◌≤◌, ◌⊎◌, Bool, true, false, not, List, [], ◌∷◌, ◌++◌, length, get_or, Option, Some, None, refl, sym, ap, ◌∙◌, subst, inl, inr, ⊎_elim, arith}
+use Rattle.std.proofs.Common.{◌≡◌, ◌≢◌, ℕ, ◌+◌, ◌<◌, ◌≤◌, Bool, true, false, not, List, [], ◌∷◌, ◌++◌, length, get_or, Option, Some, None, refl, sym, ap, ◌∙◌, subst, inl, inr, ⊎_elim, arith}
 use Rattle.std.specs.Prelude.{ℤ, All, Contains, slice_index_or, slice_set}
 use Rattle.std.specs.Option.{is_some, option_map, option_to_list}
 use Rattle.std.proofs.lemmas.Option.{none-some, same_Some}
@@ -23,7 +23,7 @@ use Rattle.cj_draft.proofs.EdgeLemmas.{successor_within}
 use Rattle.cj_const.specs.Knowledge.{Knowledge, known}
 use Rattle.cj_const.specs.Flow.{leaves}
 use Rattle.cj_const.specs.Search.{SaysLess, HasWidth, reached_at, agrees}
-use Rattle.cj_const.proofs.SearchCalls.{read-at}
+use Rattle.cj_const.proofs.SearchCalls.{read-at, place-read}
 use Rattle.cj_sparse.specs.declared.search.Work.{Work}
 use Rattle.cj_sparse.specs.declared.search.Work.TheVariants.{Reached, Lost}
 use Rattle.cj_sparse.specs.Reading.{reads, assigns}
@@ -186,8 +186,7 @@ reached-goes context code rows rows' work work' to row begun within width above 
 pub arrive-step : (context : List Fact) (code : Code) (rows rows' rows'' : Rows) (work work' work'' : List Work) (to : Label) (reg : Reg) (other : Option ℤ) (arrival items : Row) → to.0 < length code.places → IsAbove context code to (known arrival) → GoesOn context code rows work rows' work' → AreMet rows' to arrival reg.0 → HasMet rows' work' to reg other rows'' work'' → other ≡ known items reg.0 → items ≡ arrival → GoesOn context code rows work rows'' work'' × AreMet rows'' to arrival (reg.0 + 1)
 arrive-step context code rows rows' rows'' work work' work'' to reg other arrival items within above goes before met is same =
     let told : other ≡ known arrival reg.0 = is ∙ ap (λ (r : Row). known r reg.0) same in
-    let step = met-goes context code rows' rows'' work' work'' to reg other goes.begun within (known arrival) above (sym told) met in
-    (
+    let step = met-goes context code rows' rows'' work' work'' to reg other goes.begun within (known arrival) above (sym told) met in (
       goes-trans context code rows rows' rows'' work work' work'' goes step,
       met-more rows' rows'' work' work'' to reg other arrival reg.0 (omega (arith, within, goes.begun.found.count)) step.lowers met refl told before,
     )
@@ -203,3 +202,9 @@ arrive-told context code rows work to arrival n begun within all met =
     subst (λ o. SaysLess o (Some (known arrival))) (sym met.1) (λ r v e.
     let low = row-inside code.regs (slice_index_or rows to.0 None) met.0 r v wide met.1 e in
     met.2 r v (omega (arith, low, all)) e)
+
+-- the place that is read for an item
+pub item-place : (code code' : Code) (places : List Place) (rows : Rows) (item : Work) (label : Label) (p : Place) → IsItem code rows item → label ≡ label_of item → code' ≡ code → places ≡ code'.places → p ≡ get_or places label.0 p → place_at code (label_of item) ≡ Some p
+item-place code code' places rows item label p is e same read at =
+    let inside : label.0 < length code.places = subst (λ (l : Label). l.0 < length code.places) (sym e) is.label in
+    subst (λ (l : Label). place_at code l ≡ Some p) e (place-read code code' places label p same read inside at)

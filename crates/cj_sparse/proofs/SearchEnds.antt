@@ -1,7 +1,6 @@
 -- What the sparse search keeps as it begins, and that its facts are the strongest where nothing waits.
-use Rattle.std.proofs.Common.{◌≡◌, ◌≢◌, ℕ, ◌+◌, ◌<◌, ◌≤◌, ◌⊎◌, List, [], ◌∷◌, ◌++◌, length, map, replicate, Option, Some, None, refl, sym, ap, ◌∙◌, subst, inl, inr, ⊎_elim, arith}
-use Rattle.std.specs.Prelude.{ℤ, All, Contains, slice_set}
-use Rattle.std.specs.List.{AllPairs}
+use Rattle.std.proofs.Common.{◌≡◌, ℕ, ◌<◌, List, [], ◌∷◌, length, map, replicate, Option, Some, None, refl, sym, ◌∙◌, subst, inl, inr, ⊎_elim, arith}
+use Rattle.std.specs.Prelude.{ℤ, Contains, slice_set}
 use Rattle.std.proofs.lemmas.List.Elements.{All-cons, All-nil}
 use Rattle.cj_ir.specs.declared.language.Label.{Label}
 use Rattle.cj_ir.proofs.Members.{contains-none, contains-one, contains-head}
@@ -12,7 +11,7 @@ use Rattle.cj_draft.specs.declared.code.Code.{Code}
 use Rattle.cj_draft.specs.WellNamed.{AreFactsFine}
 use Rattle.cj_draft.specs.Arrives.{place_at}
 use Rattle.cj_draft.specs.Edges.{successors}
-use Rattle.cj_const.specs.Knowledge.{Knowledge, told_by, known}
+use Rattle.cj_const.specs.Knowledge.{told_by, known}
 use Rattle.cj_const.specs.Flow.{leaves, IsStrongest}
 use Rattle.cj_const.specs.Search.{SaysLess, TellsNoMore, reached_at, facts_in, EdgeHolds, LetsWait}
 use Rattle.cj_const.specs.Search as dense

@@ -1,5 +1,5 @@
 -- What instructions read and assign.
-use Rattle.std.specs.Prelude.{ℕ, ◌==◌, List, Bool, false}
+use Rattle.std.specs.Prelude.{ℕ, ◌==◌, Bool, false}
 use Rattle.std.specs.List.{list_any}
 use Rattle.cj_ir.specs.Values.{expr_operands}
 use Rattle.cj_ir.specs.declared.language.Operand.{Operand}

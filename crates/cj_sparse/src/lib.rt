@@ -2,5 +2,9 @@
 //! a register whose fact was lost, and the draft folded over them.
 #![tactic(auto)]
 
+pub mod folding;
 pub mod instructions;
 pub mod search;
+
+pub use folding::fold;
+pub use search::strongest;

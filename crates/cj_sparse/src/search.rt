@@ -173,12 +173,7 @@ impl Search {
     }
 
     /// Passes an item along these edges of its label.
-    fn follow(
-        &mut self,
-        draft: &Draft<'_>,
-        item: Work,
-        nexts: Successors,
-    ) -> Result<(), NoMemory>
+    fn follow(&mut self, draft: &Draft<'_>, item: Work, nexts: Successors) -> Result<(), NoMemory>
         requires begun { IsBegun draft.now.context draft.now.code self.old.rows.items self.old.work.items }
         requires item { IsItem draft.now.code self.old.rows.items item }
         requires edges { All (IsEdge draft.now.code (label_of item)) (listed nexts) }

@@ -1,4 +1,4 @@
-use Rattle.std.proofs.Common.{◌≡◌, ◌<◌, ◌≤◌, length, sym, ap, arith}
+use Rattle.std.proofs.Common.{◌≡◌, ◌<◌, ◌≤◌, length, ap, arith}
 use Rattle.cj_draft.specs.declared.code.Code.{Code}
 use Rattle.cj_sparse.proofs.Lowering.{goes-self}
 use Rattle.cj_sparse.proofs.SearchCalls.{row-none, row-some, reached-goes, arrive-step, arrive-told}

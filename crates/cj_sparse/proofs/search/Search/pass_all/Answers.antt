@@ -1,4 +1,4 @@
-use Rattle.std.proofs.Common.{◌≡◌, ◌∙◌, ◌<◌, length, sym, ap, Some, None, arith}
+use Rattle.std.proofs.Common.{◌≡◌, ◌∙◌, ◌<◌, length, sym, ap, Some, arith}
 use Rattle.std.specs.Option.{option_map}
 use Rattle.cj_draft.specs.Arrives.{place_at}
 use Rattle.cj_const.specs.Knowledge.{known}

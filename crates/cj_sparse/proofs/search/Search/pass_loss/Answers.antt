@@ -1,5 +1,4 @@
-use Rattle.std.proofs.Common.{◌≡◌, ◌∙◌, ◌<◌, length, sym, ap, Some, None, true, false, arith}
-use Rattle.std.specs.Option.{is_some}
+use Rattle.std.proofs.Common.{◌≡◌, ◌∙◌, ◌<◌, length, sym, Some, arith}
 use Rattle.cj_draft.specs.Arrives.{place_at}
 use Rattle.cj_const.specs.Knowledge.{known}
 use Rattle.cj_const.specs.Flow.{leaves}
