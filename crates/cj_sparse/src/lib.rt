@@ -8,3 +8,6 @@ pub mod search;
 
 pub use folding::fold;
 pub use search::strongest;
+
+#[cfg(test)]
+mod tests;
