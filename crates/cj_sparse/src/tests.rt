@@ -4,7 +4,7 @@ use super::{fold, strongest};
 use cj_draft::{Code, Draft, Fact, FactTable, Facts, VInstr};
 use cj_ir::{
     Checked, Expr, FunId, Function, Functions, Instr, Label, Line, Lines, Name, Names, Operand,
-    Operands, Program, Reg, check,
+    Program, Reg, check,
 };
 use std::alloc::Global;
 use std::process::Abort;
@@ -197,5 +197,135 @@ fn both_searches_find_the_same_facts(rt: HostRuntime) -> Result<(), Fail> {
         facts = facts.saturating_add(count(table.items()));
     }
     assert!(rt; facts > 300);
+    Ok(())
+}
+
+fn op(expr: Expr, next: u32) -> Instr {
+    Instr::Op {
+        dest: Reg(1),
+        expr,
+        next: Label(next),
+    }
+}
+
+fn constant(value: i64, next: u32) -> Instr {
+    op(Expr::Copy(Operand::Const(value)), next)
+}
+
+fn cond(test: Operand, then_to: u32, else_to: u32) -> Instr {
+    Instr::Cond {
+        test,
+        then_to: Label(then_to),
+        else_to: Label(else_to),
+    }
+}
+
+// Three instructions, and then the return of r
+fn lines(alloc: Global, first: Instr, one: Instr, other: Instr) -> Result<Lines, Fail> {
+    let mut code = Lines::new(alloc);
+    code.push(Line {
+        name: 1,
+        instr: first,
+    })?;
+    code.push(Line {
+        name: 2,
+        instr: one,
+    })?;
+    code.push(Line {
+        name: 3,
+        instr: other,
+    })?;
+    code.push(Line {
+        name: 4,
+        instr: Instr::Return { value: R },
+    })?;
+    Ok(code)
+}
+
+// Whether both searches know this alone of r at a label. `None`: no run comes to the label.
+fn tell(rt: &impl Abort, code: Lines, at: usize, want: Option<&[i64]>) -> Result<bool, Fail> {
+    let table = facts_of(rt, code.allocator(), code)?;
+    let Some(table) = table else {
+        return Ok(false);
+    };
+    Ok(match table.items().get(at) {
+        Some(Facts::Known(facts)) => are_of_r(facts.items(), want),
+        Some(Facts::Unreached) => want.is_none(),
+        None => false,
+    })
+}
+
+fn are_of_r(facts: &[Fact], want: Option<&[i64]>) -> bool {
+    match want {
+        None => false,
+        Some([]) => facts.is_empty(),
+        Some(&[value, ..]) => match facts {
+            &[fact] => fact.reg == Reg(1) && fact.value == value,
+            _ => false,
+        },
+    }
+}
+
+#[test]
+fn facts_meet_where_edges_join(rt: HostRuntime) -> Result<(), Fail> {
+    let alloc = rt.alloc();
+    let equal = lines(alloc, cond(N, 1, 2), constant(1, 3), constant(1, 3))?;
+    assert!(rt; tell(&rt, equal, 3, Some(&[1]))?);
+    let different = lines(alloc, cond(N, 1, 2), constant(1, 3), constant(2, 3))?;
+    assert!(rt; tell(&rt, different, 3, Some(&[]))?);
+    let half = lines(
+        alloc,
+        cond(N, 1, 2),
+        constant(1, 3),
+        Instr::Nop { next: Label(3) },
+    )?;
+    assert!(rt; tell(&rt, half, 3, Some(&[]))?);
+    Ok(())
+}
+
+#[test]
+fn nothing_goes_along_dead_edges(rt: HostRuntime) -> Result<(), Fail> {
+    let alloc = rt.alloc();
+    let quotient = Expr::Div(Operand::Const(7), Operand::Const(0));
+    let divides = lines(alloc, op(quotient, 1), constant(1, 2), constant(1, 3))?;
+    assert!(rt; tell(&rt, divides, 1, None)?);
+    let decided = lines(alloc, constant(0, 1), cond(R, 2, 3), constant(1, 3))?;
+    assert!(rt; tell(&rt, decided, 3, Some(&[0]))?);
+    Ok(())
+}
+
+// The fact of r is lost at the loop's head, then at the test that reads it, and a dead edge becomes alive.
+#[test]
+fn a_loss_reaches_the_labels_behind_it(rt: HostRuntime) -> Result<(), Fail> {
+    let sum = Expr::Add(R, Operand::Const(1));
+    let counts = lines(rt.alloc(), constant(1, 1), cond(R, 2, 3), op(sum, 1))?;
+    assert!(rt; tell(&rt, counts, 3, Some(&[]))?);
+    Ok(())
+}
+
+// What the folded body of the one function returns at its last label.
+fn folded_return(rt: &impl Abort, code: Lines) -> Result<Option<Operand>, Fail> {
+    let alloc = code.allocator();
+    let checked = program(rt, alloc, code)?;
+    assert!(rt; 0 < checked.program().functions.items().len());
+    let draft = fold(Draft::of_base(alloc, &checked, FunId(0))?)?;
+    let (_, _, code) = draft.into_parts();
+    Ok(returned(&code))
+}
+
+fn returned(code: &Code) -> Option<Operand> {
+    match code.places.items().get(3)?.instr {
+        VInstr::Return { value } => Some(value),
+        _ => None,
+    }
+}
+
+#[test]
+fn a_known_register_is_folded(rt: HostRuntime) -> Result<(), Fail> {
+    let alloc = rt.alloc();
+    let equal = lines(alloc, cond(N, 1, 2), constant(1, 3), constant(1, 3))?;
+    assert!(rt; folded_return(&rt, equal)? == Some(Operand::Const(1)));
+    let different = lines(alloc, cond(N, 1, 2), constant(1, 3), constant(2, 3))?;
+    assert!(rt; folded_return(&rt, different)? == Some(R));
     Ok(())
 }
