@@ -9,11 +9,11 @@ use crate::lowering::lower;
 use crate::skips::{push_all, push_one};
 use cj_anchor::insert_anchors;
 use cj_assume::immediate;
-use cj_const::fold;
 use cj_delay::delayed;
 use cj_draft::{Draft, Pass, Passes, Skips, Version};
 use cj_inline::{called_at, inline};
 use cj_ir::{Checked, FunId, Label, NoMemory};
+use cj_sparse::fold;
 use std::alloc::Global;
 
 /// The version of a function that the passes make: they change its base body one after the other, and what they make is
