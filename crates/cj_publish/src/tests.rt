@@ -73,6 +73,43 @@ fn is_claimed(table: &CodeTable, seat: &mut CodeSeat, words: &[u64], at: u64) ->
     }
 }
 
+// Whether a claim that is ready is published so.
+fn is_published(table: &CodeTable, seat: &mut CodeSeat, so: Published) -> bool
+    requires own { Belongs table.now seat.old }
+    requires cell { IsCell (key_of table.now) (main_of MAIN) }
+    requires ready { IsReady (view_of seat.old) (main_of MAIN) }
+    ensures own { Belongs table.now seat.new × IsSame seat.old seat.new }
+    ensures free { (view_of seat.new).claim ≡ None }
+{
+    match table.publish(seat, MAIN) {
+        Published::Published { offset } => so == Published::Published { offset },
+        Published::Older { mine, found } => so == Published::Older { mine, found },
+    }
+}
+
+// Whether the newest version stands there, and has one place.
+fn has_one_place(
+    table: &CodeTable,
+    seat: &mut CodeSeat,
+    alloc: Global,
+    checked: &Checked,
+    at: u64,
+) -> Result<bool, Fail>
+    requires own { Belongs table.now seat.old }
+    requires cell { IsCell (key_of table.now) (main_of MAIN) }
+    requires program { checked.now ≡ program_of table.now }
+    requires free { (view_of seat.old).claim ≡ None }
+    ensures own { Belongs table.now seat.new × IsSame seat.old seat.new }
+    ensures free { (view_of seat.new).claim ≡ None }
+{
+    let found = table.lookup(seat, MAIN);
+    if found == 0 {
+        return Ok(false);
+    }
+    let version = table.fetch(alloc, seat, checked, MAIN, found)?;
+    Ok(found == at && version.code().places.items().len() == 1)
+}
+
 #[test]
 fn of_two_versions_the_greater_offset_stays(rt: HostRuntime) -> Result<(), Fail> {
     let alloc = rt.alloc();
@@ -84,14 +121,9 @@ fn of_two_versions_the_greater_offset_stays(rt: HostRuntime) -> Result<(), Fail>
     let mut high = table.split(&mut low);
     assert!(rt; is_claimed(&table, &mut low, words.items(), 2));
     assert!(rt; is_claimed(&table, &mut high, words.items(), 19));
-    let newer = table.publish(&mut high, MAIN);
-    assert!(rt; newer == Published::Published { offset: 19 });
-    let older = table.publish(&mut low, MAIN);
-    assert!(rt; older == Published::Older { mine: 2, found: 19 });
-    let found = table.lookup(&mut low, MAIN);
-    assert_eq!(rt; found, 19);
-    let version = table.fetch(alloc, &mut low, &checked, MAIN, found)?;
-    assert!(rt; version.code().places.items().len() == 1);
+    assert!(rt; is_published(&table, &mut high, Published::Published { offset: 19 }));
+    assert!(rt; is_published(&table, &mut low, Published::Older { mine: 2, found: 19 }));
+    assert!(rt; has_one_place(&table, &mut low, alloc, &checked, 19)?);
     table.join(&mut low, high);
     table.confirm(&mut low);
     table.close(low);
