@@ -4,3 +4,4 @@ pub mod Meetings
 pub mod Passing
 pub mod SearchCalls
 pub mod SearchEnds
+pub mod Holding

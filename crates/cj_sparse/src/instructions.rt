@@ -1,20 +1,19 @@
 //! What instructions read and assign, and where they go on.
 
-ghost use Rattle.std.specs.Prelude.{◌≡◌, ◌==◌, All, IfOk, Some, length};
+ghost use Rattle.std.specs.Prelude.{◌≡◌, ◌==◌};
 ghost use Rattle.std.specs.List.{list_any};
 ghost use Rattle.std.specs.Option.{is_some};
 ghost use Rattle.cj_ir.specs.Values.{expr_operands};
 ghost use Rattle.cj_ir.specs.declared.language.Reg.{Reg};
-ghost use Rattle.cj_draft.specs.WellNamed.{IsGuardWithin};
 ghost use Rattle.cj_const.specs.Knowledge.{known, known_value, folded_operands, evaluated};
-ghost use Rattle.cj_const.specs.Flow.{after_op, along, with_guards, leaves};
-ghost use Rattle.cj_const.specs.Search.{WritesWithin};
+ghost use Rattle.cj_const.specs.Flow.{after_op, along, leaves};
 ghost use Rattle.cj_sparse.specs.Reading.{is_register, is_guarded, reads, assigns};
 
-use cj_const::flow::{branch, with_guards};
+use crate::guards::may_hold;
+use cj_const::flow::branch;
 use cj_const::knowledge::{Outcome, Row, evaluated, folded_operands, known_value};
 use cj_draft::{Pair, VInstr};
-use cj_ir::{Expr, Guard, Label, NoMemory, Operand, Reg};
+use cj_ir::{Expr, Guard, Label, Operand, Reg};
 
 #[tactic(auto, unfolding(crate::specs::Reading::is_register))]
 fn is_register(operand: &Operand, reg: Reg) -> bool
@@ -120,30 +119,20 @@ fn may_take(row: &Row, test: &Operand, then_to: Label, else_to: Label, to: Label
     }
 }
 
-/// Whether all of the guards may hold.
-fn may_hold(row: &Row, guards: &[Guard]) -> Result<bool, NoMemory>
-    requires { All (IsGuardWithin (length row.now)) guards.now }
-    ensures { IfOk result (λ holds. holds ≡ is_some (with_guards guards.now (Some (known row.now)))) }
-{
-    let made = with_guards(row, guards)?;
-    Ok(made.is_some())
-}
-
 /// Whether anything leaves the instruction along its edge to a label.
 #[tactic(auto, unfolding(cj_const::specs::Flow::leaves))]
-pub(crate) fn goes_on(row: &Row, instr: &VInstr, to: Label) -> Result<bool, NoMemory>
-    requires { WritesWithin (length row.now) instr.now }
-    ensures { IfOk result (λ live. live ≡ is_some (leaves (known row.now) instr.now to)) }
+pub(crate) fn goes_on(row: &Row, instr: &VInstr, to: Label) -> bool
+    ensures { result ≡ is_some (leaves (known row.now) instr.now to) }
 {
     match *instr {
-        VInstr::Op { ref expr, .. } => Ok(may_have_value(row, expr)),
+        VInstr::Op { ref expr, .. } => may_have_value(row, expr),
         VInstr::Cond {
             ref test,
             then_to,
             else_to,
-        } => Ok(may_take(row, test, then_to, else_to, to)),
-        VInstr::Assume { ref guards, .. } => may_hold(row, guards.items()),
-        VInstr::Return { .. } | VInstr::Fail { .. } => Ok(false),
-        _ => Ok(true),
+        } => may_take(row, test, then_to, else_to, to),
+        VInstr::Assume { ref guards, .. } => may_hold(row.items(), guards.items()),
+        VInstr::Return { .. } | VInstr::Fail { .. } => false,
+        _ => true,
     }
 }

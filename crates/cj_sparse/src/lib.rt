@@ -3,6 +3,7 @@
 #![tactic(auto)]
 
 pub mod folding;
+pub mod guards;
 pub mod instructions;
 pub mod search;
 

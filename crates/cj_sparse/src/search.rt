@@ -146,7 +146,7 @@ impl Search {
         let Some(row) = &self.rows[label.0 as usize] else {
             return Ok(());
         };
-        if !goes_on(row, &place.instr, to)? {
+        if !goes_on(row, &place.instr, to) {
             return Ok(());
         }
         self.meet(to, reg, None)?;

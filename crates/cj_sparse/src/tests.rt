@@ -1,5 +1,7 @@
 //! Both searches for the strongest facts, over bodies by hand and over made ones.
 
+ghost use Rattle.std.specs.Prelude.{◌<◌};
+
 use super::{fold, strongest};
 use cj_draft::{Code, Draft, Fact, FactTable, Facts, VInstr};
 use cj_ir::{

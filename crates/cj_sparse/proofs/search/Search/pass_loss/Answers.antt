@@ -18,8 +18,8 @@ returns-then-assigns-clause-passed c =
     passed-at draft.code rows work c.args.label c.args.to p at
     (rests-assigned rows work p.instr c.args.label c.args.to c.args.reg c.requires.item.lost (c.requires.unread p at) (sym c.assigns.ensures ∙ c.if-assigns.true) (c.requires.rests p at))
 
-pub returns-then-not-branch-clause-passed : goal.returns-then-not-branch-clause-passed
-returns-then-not-branch-clause-passed c =
+pub returns-then-not-goes_on-clause-passed : goal.returns-then-not-goes_on-clause-passed
+returns-then-not-goes_on-clause-passed c =
     let draft = c.args.draft.now in
     let rows = c.args.self.now.rows.items in
     let work = c.args.self.now.work.items in
@@ -28,7 +28,7 @@ returns-then-not-branch-clause-passed c =
     let inside : c.args.label.0 < length rows = omega (arith, c.requires.item.label, c.requires.begun.found.count) in
     let here : reached_at rows c.args.label ≡ Some (known c.in-Some.row) = row-here rows c.args.label c.index.result.now c.in-Some.row inside c.index.ensures c.in-Some.is in
     passed-at draft.code rows work c.args.label c.args.to p at
-    (rests-dead rows work p.instr c.args.label c.args.to (known c.in-Some.row) here (none-from (leaves (known c.in-Some.row) p.instr c.args.to) (sym c.in_ok-goes_on.ensures ∙ c.if-not-branch.true)))
+    (rests-dead rows work p.instr c.args.label c.args.to (known c.in-Some.row) here (none-from (leaves (known c.in-Some.row) p.instr c.args.to) (sym c.goes_on.ensures ∙ c.if-not-goes_on.true)))
 
 pub meet-requires : goal.meet-requires
 meet-requires c =
@@ -48,7 +48,7 @@ returns-clause-goes c =
     let inside : c.args.label.0 < length rows = omega (arith, c.requires.item.label, c.requires.begun.found.count) in
     let here : reached_at rows c.args.label ≡ Some (known c.in-Some.row) = row-here rows c.args.label c.index.result.now c.in-Some.row inside c.index.ensures c.in-Some.is in
     loss-goes draft.context draft.code rows c.meet.new.self.rows.items c.args.self.now.work.items c.meet.new.self.work.items c.args.label c.args.to c.args.reg p c.in-Some.row c.requires.begun c.requires.item at (c.requires.edge p at) next here
-    (c.requires.unread p at) (sym c.assigns.ensures ∙ c.if-assigns.false) (sym c.in_ok-goes_on.ensures ∙ c.if-not-branch.false) c.in_ok-meet.ensures
+    (c.requires.unread p at) (sym c.assigns.ensures ∙ c.if-assigns.false) (sym c.goes_on.ensures ∙ c.if-not-goes_on.false) c.in_ok-meet.ensures
 
 pub returns-clause-passed : goal.returns-clause-passed
 returns-clause-passed c =
@@ -60,4 +60,4 @@ returns-clause-passed c =
     let inside : c.args.label.0 < length rows = omega (arith, c.requires.item.label, c.requires.begun.found.count) in
     let here : reached_at rows c.args.label ≡ Some (known c.in-Some.row) = row-here rows c.args.label c.index.result.now c.in-Some.row inside c.index.ensures c.in-Some.is in
     loss-rests draft.context draft.code rows c.meet.new.self.rows.items c.args.self.now.work.items c.meet.new.self.work.items c.args.label c.args.to c.args.reg p c.in-Some.row c.requires.begun c.requires.item at (c.requires.edge p at) next here
-    (c.requires.unread p at) (sym c.assigns.ensures ∙ c.if-assigns.false) (sym c.in_ok-goes_on.ensures ∙ c.if-not-branch.false) c.in_ok-meet.ensures (c.requires.rests p at)
+    (c.requires.unread p at) (sym c.assigns.ensures ∙ c.if-assigns.false) (sym c.goes_on.ensures ∙ c.if-not-goes_on.false) c.in_ok-meet.ensures (c.requires.rests p at)
