@@ -9,14 +9,12 @@ use Rattle.cj_engine.proofs.engine.Engine.advance.Goals as goal
 pub returns-clause-goes : goal.returns-clause-goes
 unfolding state_of
 returns-clause-goes g c =
-    let old = c.self.inside.runner in
-    let new = c.advance.new.self in
     let e = c.in_ok-turned.ensures in
-    let P = old.checked.now in
     let codes = g.W.Watch.codes c.args.watch.now in
     let later = g.W.Watch.codes c.advance.new.watch in
-    let went = g.W.Watch.went c.args.watch.now c.advance.new.watch in
     let own = c.requires.program ∙ ap (λ (v : EngineView). v.program) (sym c.self.view_is) in
-    let sound = subst (λ (Q : Program). SoundCodes Q later) (e.keeps.same ∙ own) (g.met.W.Watch.sound c.advance.new.watch e.keeps.ready) in
+    let kept = g.met.W.Watch.sound c.advance.new.watch e.keeps.ready in
+    let sound = subst (λ (Q : Program). SoundCodes Q later) (e.keeps.same ∙ own) kept in
     let formed = c.program-program.ensures.well_formed in
-    rw (← c.self.view_is) (λ call is room. path_goes P codes later old.machine.looks e.gains.more new.machine.looks c.args.count call (state_of old.machine) c.in_ok-turned.turned (state_of new.machine) formed sound e.keeps.grows e.gains.looks_more refl is room e.onward.made)
+    rw (← c.self.view_is) (λ call is room.
+    path_goes _ codes later _ e.gains.more _ c.args.count call _ _ _ formed sound e.keeps.grows e.gains.looks_more refl is room e.onward.made)
