@@ -3,7 +3,7 @@ use Rattle.std.specs.Prelude.{◌≡◌, List, [], ◌∷◌, ◌++◌, map}
 use Rattle.cj_ir.specs.declared.language.Program.{Program}
 use Rattle.cj_ir.specs.declared.script.Setup.{Setup}
 use Rattle.cj_ir.specs.declared.script.Setup.TheVariants.{Guess, Cold, Warm}
-use Rattle.cj_engine.specs.CodeMaps.{no_codes}
+use Rattle.cj_machine.specs.CodeMaps.{no_codes}
 use Rattle.cj_profile.specs.declared.view.Read.{Read}
 use Rattle.cj_notes.specs.declared.notes.WorkNote.{WorkNote}
 use Rattle.cj_notes.specs.Works.{Warmed}

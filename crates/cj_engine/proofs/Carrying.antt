@@ -13,7 +13,7 @@ use Rattle.cj_calls.specs.declared.report.Look.{Look}
 use Rattle.cj_calls.specs.declared.report.Note.{Note}
 use Rattle.cj_ir.specs.declared.script.ScriptCall.{ScriptCall}
 use Rattle.cj_engine.specs.Engines.{begun_with}
-use Rattle.cj_engine.specs.VersionRuns.{version_start, begins_in, first_state}
+use Rattle.cj_machine.specs.VersionRuns.{version_start, begins_in, first_state}
 use Rattle.cj_activations.specs.declared.windows.Position.{Position}
 use Rattle.cj_activations.specs.declared.windows.Position.TheVariants.{Base, Version}
 use Rattle.cj_activations.specs.declared.windows.Waits.TheVariants as waits
@@ -21,12 +21,12 @@ use Rattle.cj_activations.specs.Activations.{Active, InBase, InVersion, Paused, 
 use Rattle.cj_activations.specs.Windows.{active_at}
 use Rattle.cj_activations.specs.Changes.{innermost, waits_of, HasDest, called, entered, returned, returned_to}
 use Rattle.cj_activations.specs.Changes as changes
-use Rattle.cj_engine.specs.Versions as versions
-use Rattle.cj_engine.specs.Versions.{State, Codes, Progress, Continues, Finishes, counted, turn_by, returns_to, version_entry, moved_to}
-use Rattle.cj_engine.specs.Stepping.{Turn, IsStep, CanTake, IsCaller}
-use Rattle.cj_engine.specs.declared.steps.Step.TheVariants as step
+use Rattle.cj_machine.specs.Versions as versions
+use Rattle.cj_machine.specs.Versions.{State, Codes, Progress, Continues, Finishes, counted, turn_by, returns_to, version_entry, moved_to}
+use Rattle.cj_machine.specs.Stepping.{Turn, IsStep, CanTake, IsCaller}
+use Rattle.cj_machine.specs.declared.steps.Step.TheVariants as step
 use Rattle.cj_base.specs.declared.machine.End.TheVariants.{Returned}
-use Rattle.cj_engine.proofs.Arms.{returns_last, enters_base, enters_version, turn_enters, returns_to_version}
+use Rattle.cj_machine.proofs.Arms.{returns_last, enters_base, enters_version, turn_enters, returns_to_version}
 
 -- ---- entries
 

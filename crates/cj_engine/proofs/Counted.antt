@@ -3,8 +3,8 @@ use Rattle.std.proofs.Common.{◌≡◌, subst, ℕ, List}
 use Rattle.cj_ir.specs.declared.language.Program.{Program}
 use Rattle.cj_base.specs.declared.machine.Turned.{Turned}
 use Rattle.cj_calls.specs.declared.report.Look.{Look}
-use Rattle.cj_engine.specs.Versions.{State, Codes}
-use Rattle.cj_engine.specs.Marks.{Mark}
+use Rattle.cj_machine.specs.Versions.{State, Codes}
+use Rattle.cj_machine.specs.Marks.{Mark}
 use Rattle.cj_engine.specs.Stretches.{Onward}
 
 module _ {P : Program} {went : List Mark → Type 0} {codes : Codes} {trail : List Look} {s t : State} where

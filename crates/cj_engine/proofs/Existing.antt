@@ -30,11 +30,11 @@ use Rattle.cj_draft.specs.Effects.{guards_hold, version_effect}
 use Rattle.cj_draft.specs.Sound.{pair_of, StepsGuarded, SoundEffect, Sound}
 use Rattle.cj_ir.proofs.ListReads.{all_at}
 use Rattle.cj_activations.specs.Activations.{VersionFrame, Active, InBase, InVersion, Paused, BaseWaits, VersionWaits}
-use Rattle.cj_engine.specs.Versions.{State, Codes}
-use Rattle.cj_engine.specs.CodeMaps.{SoundCodes}
-use Rattle.cj_engine.specs.Stands.{IsPlaced, IsPausedVersion, PausedIs, PausedAre, VersionTop, TopStands, Stands}
-use Rattle.cj_engine.proofs.Arms.{place_is}
-use Rattle.cj_engine.proofs.Turns.{place_found}
+use Rattle.cj_machine.specs.Versions.{State, Codes}
+use Rattle.cj_machine.specs.CodeMaps.{SoundCodes}
+use Rattle.cj_machine.specs.Stands.{IsPlaced, IsPausedVersion, PausedIs, PausedAre, VersionTop, TopStands, Stands}
+use Rattle.cj_machine.proofs.Arms.{place_is}
+use Rattle.cj_machine.proofs.Turns.{place_found}
 
 -- ---- what exists for an activation
 

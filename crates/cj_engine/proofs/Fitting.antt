@@ -22,12 +22,12 @@ use Rattle.cj_draft.specs.Arrives.{place_at}
 use Rattle.cj_activations.specs.declared.windows.Position.TheVariants.{Base, Version}
 use Rattle.cj_activations.specs.Activations.{VersionFrame, Active, InBase, InVersion}
 use Rattle.cj_activations.specs.Changes.{active_regs, position_of}
-use Rattle.cj_engine.specs.declared.steps.Step.{Step}
-use Rattle.cj_engine.specs.declared.steps.Step.TheVariants as step
-use Rattle.cj_engine.specs.Versions.{State, Codes}
-use Rattle.cj_engine.specs.Machines.{IsEarly}
-use Rattle.cj_engine.specs.Watching.{IsCond}
-use Rattle.cj_engine.specs.Stepping.{Turn, IsStep, IsReady, CanTake, CanGoBack, BaseNeeds, VersionNeeds}
+use Rattle.cj_machine.specs.declared.steps.Step.{Step}
+use Rattle.cj_machine.specs.declared.steps.Step.TheVariants as step
+use Rattle.cj_machine.specs.Versions.{State, Codes}
+use Rattle.cj_machine.specs.Machines.{IsEarly}
+use Rattle.cj_machine.specs.Marks.{IsCond}
+use Rattle.cj_machine.specs.Stepping.{Turn, IsStep, IsReady, CanTake, CanGoBack, BaseNeeds, VersionNeeds}
 use Rattle.cj_engine.specs.Engines.{TopReady, CanTurn}
 
 -- a base frame on top, at that label of the function

@@ -13,17 +13,17 @@ use Rattle.cj_draft.specs.declared.code.Code.{Code}
 use Rattle.cj_draft.specs.Arrives.{place_at}
 use Rattle.cj_activations.specs.declared.windows.Position.TheVariants.{Version}
 use Rattle.cj_activations.specs.Changes.{position_of}
-use Rattle.cj_engine.specs.declared.steps.Step.{Step}
-use Rattle.cj_engine.specs.declared.steps.Step.TheVariants.{Goes}
-use Rattle.cj_engine.specs.Versions.{State, Codes, Continues}
-use Rattle.cj_engine.specs.CodeMaps.{SoundCodes, Grows}
-use Rattle.cj_engine.specs.Stands.{Holds}
-use Rattle.cj_engine.specs.Stepping.{StandsAt, IsVersionStep, marks_told}
+use Rattle.cj_machine.specs.declared.steps.Step.{Step}
+use Rattle.cj_machine.specs.declared.steps.Step.TheVariants.{Goes}
+use Rattle.cj_machine.specs.Versions.{State, Codes, Continues}
+use Rattle.cj_machine.specs.CodeMaps.{SoundCodes, Grows}
+use Rattle.cj_machine.specs.Stands.{Holds}
+use Rattle.cj_machine.specs.Stepping.{StandsAt, IsVersionStep, marks_told}
 use Rattle.cj_engine.specs.Engines.{CanTurn, HasRoom}
 use Rattle.cj_engine.specs.Stretches.{IsQuiet, Quiet, Stops}
-use Rattle.cj_engine.proofs.Going.{turn_counted}
+use Rattle.cj_machine.proofs.Going.{turn_counted}
 use Rattle.cj_engine.proofs.Standing.{way_turns}
-use Rattle.cj_engine.proofs.Turns.{later_turn_holds}
+use Rattle.cj_machine.proofs.Turns.{later_turn_holds}
 use Rattle.cj_engine.proofs.Turning.{version_there, version_turn_over, version_marks_done, version_step_ready, version_entry_same, version_entry_takes}
 
 pub same_codes : (codes : Codes) → Grows codes codes

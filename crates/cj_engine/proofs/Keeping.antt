@@ -1,10 +1,10 @@
 -- What a call keeps of a watch.
 use Rattle.std.proofs.Common.{◌≡◌, ◌∙◌, refl, subst, sym}
 use Rattle.cj_ir.specs.declared.language.Program.{Program}
-use Rattle.cj_engine.specs.Versions.{Codes}
-use Rattle.cj_engine.specs.CodeMaps.{Grows}
+use Rattle.cj_machine.specs.Versions.{Codes}
+use Rattle.cj_machine.specs.CodeMaps.{Grows}
 use Rattle.cj_engine.specs.Watching.{Keeps}
-use Rattle.cj_engine.proofs.Growing.{grows_more}
+use Rattle.cj_machine.proofs.Growing.{grows_more}
 
 module _ {W : Type 0} (program : W → Program) (codes : W → Codes) (stay : W → W → Type 0) (fit : W → Type 0) where
   pub keeps_none : (w : W) → stay w w → fit w → Keeps program codes stay fit w w

@@ -12,7 +12,7 @@ use Rattle.cj_ir.specs.declared.language.Function.{Function}
 use Rattle.cj_ir.specs.declared.language.Program.{Program}
 use Rattle.cj_activations.specs.declared.windows.Position.TheVariants.{Base}
 use Rattle.cj_activations.specs.Changes.{position_of}
-use Rattle.cj_engine.specs.Versions.{State, Codes}
+use Rattle.cj_machine.specs.Versions.{State, Codes}
 use Rattle.cj_engine.specs.Engines.{CanTurn}
 use Rattle.cj_engine.proofs.Fitting.{IsBaseTop, base_top}
 

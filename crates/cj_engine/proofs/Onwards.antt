@@ -12,24 +12,25 @@ use Rattle.cj_base.specs.Run.{Begun}
 use Rattle.cj_calls.specs.declared.report.Look.{Look}
 use Rattle.cj_activations.specs.Activations.{VersionFrame, Active, InBase, InVersion}
 use Rattle.cj_draft.specs.declared.code.Place.{Place}
-use Rattle.cj_engine.specs.declared.steps.Step.{Step}
-use Rattle.cj_engine.specs.Versions.{State, Codes, Progress, Continues, Finishes, Undefined, place_in, version_turn}
-use Rattle.cj_engine.specs.VersionRuns.{one_turn_more, version_run}
-use Rattle.cj_engine.specs.Marks.{Mark, Entered, turn_marks, next_marks, run_marks, start_marks}
-use Rattle.cj_engine.specs.CodeMaps.{SoundCodes, Grows}
-use Rattle.cj_engine.specs.Stands.{Stands, Holds}
+use Rattle.cj_machine.specs.declared.steps.Step.{Step}
+use Rattle.cj_machine.specs.Versions.{State, Codes, Progress, Continues, Finishes, Undefined, place_in, version_turn}
+use Rattle.cj_machine.specs.VersionRuns.{one_turn_more, version_run}
+use Rattle.cj_machine.specs.Marks.{Mark, Entered, turn_marks, next_marks, run_marks, start_marks}
+use Rattle.cj_machine.specs.CodeMaps.{SoundCodes, Grows}
+use Rattle.cj_machine.specs.Stands.{Stands, Holds}
 use Rattle.cj_engine.specs.Watching.{Gains, TellsAtMost}
-use Rattle.cj_engine.specs.declared.machine.Machine.{Machine}
-use Rattle.cj_engine.specs.Machines.{state_of, progress_of}
-use Rattle.cj_engine.specs.Stepping.{PlaceTakesMemory, TopTakesMemory, TurnTakesMemory, IsEntry, marks_told}
-use Rattle.cj_engine.specs.Engines.{EngineView, HasRoom, IsRun, HasFinished, RunGoes, CanTurn, end_after}
+use Rattle.cj_machine.specs.declared.machine.Machine.{Machine}
+use Rattle.cj_machine.specs.Machines.{state_of, progress_of}
+use Rattle.cj_machine.specs.Stepping.{PlaceTakesMemory, TopTakesMemory, TurnTakesMemory, IsEntry, marks_told}
+use Rattle.cj_engine.specs.Engines.{EngineView, HasRoom, CanTurn, end_after}
+use Rattle.cj_machine.specs.CallRuns.{IsRun, HasFinished, RunGoes}
 use Rattle.cj_engine.specs.Stretches.{Quiet, Stops, Starves, IsCarried, turns_from, marks_from, Onward, Stretched, Halted}
-use Rattle.cj_engine.proofs.Growing.{place_kept, stands_grows}
-use Rattle.cj_engine.proofs.Runs.{run_turns, run_later, continues_defined, report_at_limit}
-use Rattle.cj_engine.proofs.RunMarks.{marks_at_start}
-use Rattle.cj_engine.proofs.Memories.{memory_going, memory_at, memory_continues}
-use Rattle.cj_engine.proofs.Reporting.{run_stands, run_holds}
-use Rattle.cj_engine.proofs.Going.{finished_is}
+use Rattle.cj_machine.proofs.Growing.{place_kept, stands_grows}
+use Rattle.cj_machine.proofs.Runs.{run_turns, run_later, continues_defined, report_at_limit}
+use Rattle.cj_machine.proofs.RunMarks.{marks_at_start}
+use Rattle.cj_machine.proofs.Memories.{memory_going, memory_at, memory_continues}
+use Rattle.cj_machine.proofs.Reporting.{run_stands, run_holds}
+use Rattle.cj_machine.proofs.Going.{finished_is}
 use Rattle.cj_engine.proofs.Paths.{turns_then, marks_then, run_then, run_marks_then, ended_turns, ended_marks, turns_counted, turns_later, marks_from_later, turns_hold}
 use Rattle.cj_engine.proofs.Gliding.{same_codes, room_turns}
 

@@ -5,16 +5,16 @@ use Rattle.cj_ir.specs.declared.language.Program.{Program}
 use Rattle.cj_base.specs.declared.machine.End.{End}
 use Rattle.cj_base.specs.Run.{Begun}
 use Rattle.cj_calls.specs.declared.report.Look.{Look}
-use Rattle.cj_engine.specs.Versions.{State, Codes, Progress, Continues, Finishes, Undefined}
-use Rattle.cj_engine.specs.VersionRuns.{one_turn_more, version_run}
-use Rattle.cj_engine.specs.Marks.{next_marks, run_marks}
-use Rattle.cj_engine.specs.CodeMaps.{SoundCodes, Grows}
-use Rattle.cj_engine.specs.Stands.{Holds}
+use Rattle.cj_machine.specs.Versions.{State, Codes, Progress, Continues, Finishes, Undefined}
+use Rattle.cj_machine.specs.VersionRuns.{one_turn_more, version_run}
+use Rattle.cj_machine.specs.Marks.{next_marks, run_marks}
+use Rattle.cj_machine.specs.CodeMaps.{SoundCodes, Grows}
+use Rattle.cj_machine.specs.Stands.{Holds}
 use Rattle.cj_engine.specs.Stretches.{turns_from, marks_from}
-use Rattle.cj_engine.proofs.Growing.{Kept}
-use Rattle.cj_engine.proofs.Runs.{HasTurns, one_more_counted, one_more_kept}
-use Rattle.cj_engine.proofs.RunMarks.{next_marks_kept, defined_before}
-use Rattle.cj_engine.proofs.Reporting.{next_holds}
+use Rattle.cj_machine.proofs.Growing.{Kept}
+use Rattle.cj_machine.proofs.Runs.{HasTurns, one_more_counted, one_more_kept}
+use Rattle.cj_machine.proofs.RunMarks.{next_marks_kept, defined_before}
+use Rattle.cj_machine.proofs.Reporting.{next_holds}
 
 -- ---- turns and then others
 

@@ -15,12 +15,13 @@ use Rattle.cj_draft.specs.declared.points.Point.{Point}
 use Rattle.cj_draft.specs.declared.instructions.VInstr.{VInstr}
 use Rattle.cj_draft.specs.declared.instructions.VInstr.TheVariants.{Nop, Op, Move, Cond, Call, Return, Print, Load, Store, Fail, Assume, Anchor}
 use Rattle.cj_activations.specs.Activations.{Active, InBase, InVersion, Paused, BaseWaits, VersionWaits}
-use Rattle.cj_engine.specs.Versions.{State, Codes}
-use Rattle.cj_engine.specs.CodeMaps.{SoundCodes}
-use Rattle.cj_engine.specs.Stands.{Stands}
-use Rattle.cj_engine.specs.Stepping.{CanTake, CanGoBack}
-use Rattle.cj_engine.specs.Engines.{IsUnderWay, TopReady, CanTurn}
-use Rattle.cj_engine.proofs.Counting.{counts_within}
+use Rattle.cj_machine.specs.Versions.{State, Codes}
+use Rattle.cj_machine.specs.CodeMaps.{SoundCodes}
+use Rattle.cj_machine.specs.Stands.{Stands}
+use Rattle.cj_machine.specs.Stepping.{CanTake, CanGoBack}
+use Rattle.cj_engine.specs.Engines.{TopReady, CanTurn}
+use Rattle.cj_machine.specs.CallRuns.{IsUnderWay}
+use Rattle.cj_machine.proofs.Counting.{counts_within}
 use Rattle.cj_engine.proofs.Existing.{TopExists, PausedExists, top_exists, waiting_exist, back_within}
 
 can_take : (P : Program) (codes : Codes) (waiting : List Paused) → All (PausedExists P codes) waiting → CanTake codes waiting

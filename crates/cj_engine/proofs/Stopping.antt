@@ -6,18 +6,18 @@ use Rattle.cj_base.specs.Run.{Begun}
 use Rattle.cj_calls.specs.declared.report.Look.{Look}
 use Rattle.cj_draft.specs.declared.code.Place.{Place}
 use Rattle.cj_activations.specs.Activations.{VersionFrame, Active, InBase, InVersion}
-use Rattle.cj_engine.specs.Versions.{State, Codes, Progress, Continues, place_in}
-use Rattle.cj_engine.specs.VersionRuns.{version_run}
-use Rattle.cj_engine.specs.Marks.{Mark, place_marks, marks_in, turn_marks, start_marks, run_marks}
-use Rattle.cj_engine.specs.CodeMaps.{Grows}
+use Rattle.cj_machine.specs.Versions.{State, Codes, Progress, Continues, place_in}
+use Rattle.cj_machine.specs.VersionRuns.{version_run}
+use Rattle.cj_machine.specs.Marks.{Mark, place_marks, marks_in, turn_marks, start_marks, run_marks}
+use Rattle.cj_machine.specs.CodeMaps.{Grows}
 use Rattle.cj_engine.specs.Watching.{Gains, TellsAtMost}
-use Rattle.cj_engine.specs.Stepping.{PlaceTakesMemory, TopTakesMemory, TurnTakesMemory}
-use Rattle.cj_engine.specs.Engines.{IsRun}
+use Rattle.cj_machine.specs.Stepping.{PlaceTakesMemory, TopTakesMemory, TurnTakesMemory}
+use Rattle.cj_machine.specs.CallRuns.{IsRun}
 use Rattle.cj_engine.specs.Stretches.{turns_from, marks_from, Halted}
 use Rattle.cj_engine.specs.Stopped.{StoppedAfter, Stopped}
-use Rattle.cj_engine.proofs.Growing.{place_kept}
-use Rattle.cj_engine.proofs.Runs.{run_later, continues_defined}
-use Rattle.cj_engine.proofs.RunMarks.{marks_later, marks_at_start}
+use Rattle.cj_machine.proofs.Growing.{place_kept}
+use Rattle.cj_machine.proofs.Runs.{run_later, continues_defined}
+use Rattle.cj_machine.proofs.RunMarks.{marks_later, marks_at_start}
 use Rattle.cj_engine.proofs.Paths.{run_then, run_marks_then}
 use Rattle.cj_engine.proofs.Onwards.{tells_by, takes_later}
 

@@ -22,15 +22,15 @@ use Rattle.cj_calls.specs.declared.report.Look.{Look}
 use Rattle.cj_activations.specs.declared.windows.Position.TheVariants.{Base, Version}
 use Rattle.cj_activations.specs.Activations.{VersionFrame, Active, InBase}
 use Rattle.cj_activations.specs.Changes.{active_regs, position_of}
-use Rattle.cj_engine.specs.declared.steps.Step.{Step}
-use Rattle.cj_engine.specs.declared.steps.Step.TheVariants as step
-use Rattle.cj_engine.specs.declared.steps.Step.TheVariants.{Goes}
-use Rattle.cj_engine.specs.Versions.{State, Codes, Progress, version_turn, version_turn_by}
-use Rattle.cj_engine.specs.Marks.{version_marks, turn_marks}
-use Rattle.cj_engine.specs.CodeMaps.{Grows}
-use Rattle.cj_engine.specs.Stepping.{Turn, StandsAt, IsStep, IsReady, CanGoBack, IsBaseStep, IsVersionStep, StaysIn, BaseNeeds, VersionNeeds, EffectTakesMemory, VersionTakesMemory, BaseTakesMemory, PlaceTakesMemory, TopTakesMemory, TurnTakesMemory, IsEntry, marks_told}
+use Rattle.cj_machine.specs.declared.steps.Step.{Step}
+use Rattle.cj_machine.specs.declared.steps.Step.TheVariants as step
+use Rattle.cj_machine.specs.declared.steps.Step.TheVariants.{Goes}
+use Rattle.cj_machine.specs.Versions.{State, Codes, Progress, version_turn, version_turn_by}
+use Rattle.cj_machine.specs.Marks.{version_marks, turn_marks}
+use Rattle.cj_machine.specs.CodeMaps.{Grows}
+use Rattle.cj_machine.specs.Stepping.{Turn, StandsAt, IsStep, IsReady, CanGoBack, IsBaseStep, IsVersionStep, StaysIn, BaseNeeds, VersionNeeds, EffectTakesMemory, VersionTakesMemory, BaseTakesMemory, PlaceTakesMemory, TopTakesMemory, TurnTakesMemory, IsEntry, marks_told}
 use Rattle.cj_engine.specs.Engines.{CanTurn}
-use Rattle.cj_engine.proofs.Arms.{place_is, turn_at_base, turn_at_version, marks_at_base, marks_at_version}
+use Rattle.cj_machine.proofs.Arms.{place_is, turn_at_base, turn_at_version, marks_at_base, marks_at_version}
 use Rattle.cj_engine.proofs.Fitting.{IsBaseTop, base_top, line_instr, base_fits, IsVersionTop, version_top, version_fits}
 
 -- a step that leaves an entry is that of a call

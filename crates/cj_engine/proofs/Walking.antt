@@ -10,11 +10,12 @@ use Rattle.cj_base.specs.declared.machine.Turned.{Turned}
 use Rattle.cj_base.specs.declared.machine.Turned.TheVariants.{Running}
 use Rattle.cj_base.specs.Run.{Begun}
 use Rattle.cj_calls.specs.declared.report.Look.{Look}
-use Rattle.cj_engine.specs.Versions.{State}
-use Rattle.cj_engine.specs.CodeMaps.{no_codes}
-use Rattle.cj_engine.specs.Engines.{begun_with, IsUnderWay, IsRun, RunGoes}
+use Rattle.cj_machine.specs.Versions.{State}
+use Rattle.cj_machine.specs.CodeMaps.{no_codes}
+use Rattle.cj_engine.specs.Engines.{begun_with}
+use Rattle.cj_machine.specs.CallRuns.{IsUnderWay, IsRun, RunGoes}
 use Rattle.cj_engine.specs.Walks.{Walks}
-use Rattle.cj_engine.proofs.Going.{run_under_way}
+use Rattle.cj_machine.proofs.Going.{run_under_way}
 
 both_found : (own there : Bool) (code : Code) → IsSome (if_both own there code) → if_both own there code ≡ Some code
 unfolding if_both

@@ -1,13 +1,5 @@
-pub mod Versions
-pub mod VersionRuns
-pub mod Marks
-pub mod CodeMaps
 pub mod NoCodes
-pub mod Stands
 pub mod Watching
-pub mod Memories
-pub mod Machines
-pub mod Stepping
 pub mod Engines
 pub mod Walks
 pub mod OneVersion

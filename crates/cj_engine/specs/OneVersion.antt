@@ -8,8 +8,8 @@ use Rattle.cj_ir.specs.declared.language.Program.{Program}
 use Rattle.cj_draft.specs.declared.code.Code.{Code}
 use Rattle.cj_draft.specs.Bodies.{Body}
 use Rattle.cj_draft.specs.Sound.{Sound}
-use Rattle.cj_engine.specs.Versions.{Codes}
-use Rattle.cj_engine.specs.CodeMaps.{SoundCodes}
+use Rattle.cj_machine.specs.Versions.{Codes}
+use Rattle.cj_machine.specs.CodeMaps.{SoundCodes}
 
 unfoldable pub if_both : Bool → Bool → Code → Option Code
 if_both true true code = Some code

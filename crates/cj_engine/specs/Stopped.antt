@@ -3,11 +3,11 @@ use Rattle.std.specs.Prelude.{◌≡◌, ◌⊎◌, ◌<◌, ◌++◌, ℕ, List
 use Rattle.cj_ir.specs.declared.language.Program.{Program}
 use Rattle.cj_base.specs.Run.{Begun}
 use Rattle.cj_calls.specs.declared.report.Look.{Look}
-use Rattle.cj_engine.specs.Versions.{State, Codes, Continues}
-use Rattle.cj_engine.specs.VersionRuns.{version_run}
-use Rattle.cj_engine.specs.Marks.{Mark, start_marks, run_marks, turn_marks}
+use Rattle.cj_machine.specs.Versions.{State, Codes, Continues}
+use Rattle.cj_machine.specs.VersionRuns.{version_run}
+use Rattle.cj_machine.specs.Marks.{Mark, start_marks, run_marks, turn_marks}
 use Rattle.cj_engine.specs.Watching.{TellsAtMost}
-use Rattle.cj_engine.specs.Stepping.{TurnTakesMemory}
+use Rattle.cj_machine.specs.Stepping.{TurnTakesMemory}
 
 -- So many turns of the call's run were made, fewer than its limit, over these looks, which it used and which the trail gained.
 -- The next turn found no memory. The marks so far were told, and of that turn nothing, or its entry.

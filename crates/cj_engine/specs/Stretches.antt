@@ -5,15 +5,15 @@ use Rattle.cj_ir.specs.declared.language.Label.{Label}
 use Rattle.cj_ir.specs.declared.language.Program.{Program}
 use Rattle.cj_base.specs.declared.machine.Turned.{Turned}
 use Rattle.cj_calls.specs.declared.report.Look.{Look}
-use Rattle.cj_engine.specs.declared.steps.Step.{Step}
-use Rattle.cj_engine.specs.declared.steps.Step.TheVariants as step
-use Rattle.cj_engine.specs.Versions.{State, Codes, Progress, Continues, version_turn}
-use Rattle.cj_engine.specs.VersionRuns.{one_turn_more}
-use Rattle.cj_engine.specs.Marks.{Mark, turn_marks, next_marks}
-use Rattle.cj_engine.specs.CodeMaps.{Grows}
-use Rattle.cj_engine.specs.Machines.{progress_of}
+use Rattle.cj_machine.specs.declared.steps.Step.{Step}
+use Rattle.cj_machine.specs.declared.steps.Step.TheVariants as step
+use Rattle.cj_machine.specs.Versions.{State, Codes, Progress, Continues, version_turn}
+use Rattle.cj_machine.specs.VersionRuns.{one_turn_more}
+use Rattle.cj_machine.specs.Marks.{Mark, turn_marks, next_marks}
+use Rattle.cj_machine.specs.CodeMaps.{Grows}
+use Rattle.cj_machine.specs.Machines.{progress_of}
 use Rattle.cj_engine.specs.Watching.{TellsAtMost}
-use Rattle.cj_engine.specs.Stepping.{IsStep, IsReady, IsEntry, Turn, TurnTakesMemory, marks_told}
+use Rattle.cj_machine.specs.Stepping.{IsStep, IsReady, IsEntry, Turn, TurnTakesMemory, marks_told}
 
 -- ---- turns of a version that leave nothing to do
 

@@ -1,23 +1,11 @@
 -- What a watch is told of, and what its trail gains.
-use Rattle.std.specs.Prelude.{◌≡◌, ◌⊎◌, ℕ, ℤ, List, [], ◌∷◌, ◌++◌, Option, Some, ⊤}
-use Rattle.cj_ir.specs.Program.{instr_at}
+use Rattle.std.specs.Prelude.{◌≡◌, ◌⊎◌, ℕ, ℤ, List, [], ◌∷◌, ◌++◌}
 use Rattle.cj_ir.specs.declared.language.FunId.{FunId}
-use Rattle.cj_ir.specs.declared.language.Label.{Label}
 use Rattle.cj_ir.specs.declared.language.Program.{Program}
-use Rattle.cj_ir.specs.declared.language.Instr.{Instr}
-use Rattle.cj_ir.specs.declared.language.Instr.TheVariants.{Cond}
 use Rattle.cj_calls.specs.declared.report.Look.{Look}
-use Rattle.cj_engine.specs.Versions.{Codes}
-use Rattle.cj_engine.specs.Marks.{Mark, Entered}
-use Rattle.cj_engine.specs.CodeMaps.{Grows}
-
-abbrev pub IsCond : Option Instr → Type 0
-IsCond (Some (Cond test then_to else_to)) = ⊤
-IsCond instr = ⊥
-
--- a cond stands at that label of the function
-abbrev pub IsBranch : Program → FunId → Label → Type 0
-IsBranch P f label = IsCond (instr_at P f label)
+use Rattle.cj_machine.specs.Versions.{Codes}
+use Rattle.cj_machine.specs.Marks.{Mark, Entered}
+use Rattle.cj_machine.specs.CodeMaps.{Grows}
 
 -- the looks and the trail gained the same
 pub record Gains (looks now_looks trail now_trail : List Look) : Type 0 where

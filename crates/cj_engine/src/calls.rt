@@ -4,9 +4,9 @@ ghost use Rattle.std.specs.Prelude.{◌≡◌, ◌≤◌, ◌++◌, length, Some
 ghost use Rattle.cj_ir.specs.WellFormed.{Takes};
 ghost use Rattle.cj_base.specs.Run.{begun};
 ghost use Rattle.cj_calls.specs.Reports.{ReportStands, IsWhole};
-ghost use Rattle.cj_engine.specs.VersionRuns.{version_report};
-ghost use Rattle.cj_engine.specs.Memories.{base_memory, version_memory};
-ghost use Rattle.cj_engine.specs.Marks.{run_marks};
+ghost use Rattle.cj_machine.specs.VersionRuns.{version_report};
+ghost use Rattle.cj_machine.specs.Memories.{base_memory, version_memory};
+ghost use Rattle.cj_machine.specs.Marks.{run_marks};
 ghost use Rattle.cj_engine.specs.Watching.{Keeps};
 ghost use Rattle.cj_engine.specs.Stopped.{Stopped};
 ghost use Rattle.cj_engine.specs.Engines.{begun_with, end_after};

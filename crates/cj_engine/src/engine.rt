@@ -4,14 +4,15 @@ ghost use Rattle.std.specs.Prelude.{◌≡◌, ◌<◌, ◌≤◌, ◌+◌, [], 
 ghost use Rattle.cj_ir.specs.WellFormed.{Takes};
 ghost use Rattle.cj_base.specs.Run.{Begun, begun};
 ghost use Rattle.cj_activations.specs.Changes.{all_registers};
-ghost use Rattle.cj_engine.specs.Versions.{Continues, version_turn};
-ghost use Rattle.cj_engine.specs.VersionRuns.{version_start, report_of};
-ghost use Rattle.cj_engine.specs.Marks.{turn_marks, start_marks};
-ghost use Rattle.cj_engine.specs.Stands.{Stands, Holds};
+ghost use Rattle.cj_machine.specs.Versions.{Continues, version_turn};
+ghost use Rattle.cj_machine.specs.VersionRuns.{version_start, report_of};
+ghost use Rattle.cj_machine.specs.Marks.{turn_marks, start_marks};
+ghost use Rattle.cj_machine.specs.Stands.{Stands, Holds};
 ghost use Rattle.cj_engine.specs.Watching.{Gains, Keeps, TellsAtMost};
-ghost use Rattle.cj_engine.specs.Machines.{progress_of};
-ghost use Rattle.cj_engine.specs.Stepping.{TurnTakesMemory};
-ghost use Rattle.cj_engine.specs.Engines.{begun_with, IsUnderWay, HasRoom, IsRun, RunGoes, goes_on};
+ghost use Rattle.cj_machine.specs.Machines.{progress_of};
+ghost use Rattle.cj_machine.specs.Stepping.{TurnTakesMemory};
+ghost use Rattle.cj_engine.specs.Engines.{begun_with, HasRoom, goes_on};
+ghost use Rattle.cj_machine.specs.CallRuns.{IsUnderWay, IsRun, RunGoes};
 ghost use Rattle.cj_engine.specs.Stretches.{Onward, Halted};
 
 use crate::runner::Runner;
@@ -35,7 +36,7 @@ impl<'p> Model for Engine<'p> {
 
     ghost Value = { EngineView };
 
-    ghost use Rattle.cj_engine.specs.Machines.{state_of};
+    ghost use Rattle.cj_machine.specs.Machines.{state_of};
 
     ghost view = { λ e. record {
       program = e.runner.checked.now;
@@ -212,7 +213,7 @@ impl<'p> Engine<'p> {
     }
 }
 
-#[tactic(auto, unfolding(crate::specs::Machines::state_of))]
+#[tactic(auto, unfolding(cj_machine::specs::Machines::state_of))]
 impl Engine<'_> {
     pub fn turns(&self) -> u64
         ensures { result ≡ self.now.state.turns }

@@ -8,8 +8,8 @@ ghost use Rattle.cj_draft.specs.declared.code.Place.{Place};
 ghost use Rattle.cj_draft.specs.Arrives.{place_at};
 ghost use Rattle.cj_activations.specs.declared.windows.Position.TheVariants.{Base, Version};
 ghost use Rattle.cj_activations.specs.Windows.{active_at};
-ghost use Rattle.cj_engine.specs.Versions.{entered};
-ghost use Rattle.cj_engine.specs.Stepping.{StandsAt, IsCaller};
+ghost use Rattle.cj_machine.specs.Versions.{entered};
+ghost use Rattle.cj_machine.specs.Stepping.{StandsAt, IsCaller};
 
 use crate::watch::Watch;
 use cj_activations::Position;

@@ -7,23 +7,22 @@ ghost use Rattle.cj_ir.specs.Program.{line_at};
 ghost use Rattle.cj_base.specs.Machine.{Calls};
 ghost use Rattle.cj_activations.specs.Changes.{position_of};
 ghost use Rattle.cj_activations.specs.declared.windows.Position.TheVariants.{Base};
-ghost use Rattle.cj_engine.specs.Versions.{State, Continues, returns_to, turn_by, version_turn};
-ghost use Rattle.cj_engine.specs.VersionRuns.{version_start};
-ghost use Rattle.cj_engine.specs.Marks.{Entered, turn_marks, start_marks};
+ghost use Rattle.cj_machine.specs.Versions.{State, Continues, returns_to, turn_by, version_turn};
+ghost use Rattle.cj_machine.specs.VersionRuns.{version_start};
+ghost use Rattle.cj_machine.specs.Marks.{Entered, turn_marks, start_marks};
 ghost use Rattle.cj_engine.specs.Watching.{Gains, Keeps, TellsAtMost};
-ghost use Rattle.cj_engine.specs.Machines.{state_of, IsEarly, progress_of};
-ghost use Rattle.cj_engine.specs.Stepping.{Turn, IsStep, IsReady, CanTake, TurnTakesMemory, IsEntry, marks_told};
-ghost use Rattle.cj_engine.specs.Engines.{begun_with, IsRun, CanTurn};
+ghost use Rattle.cj_machine.specs.Machines.{state_of, IsEarly, progress_of};
+ghost use Rattle.cj_machine.specs.Stepping.{Turn, IsStep, IsReady, CanTake, TurnTakesMemory, IsEntry, marks_told};
+ghost use Rattle.cj_engine.specs.Engines.{begun_with, CanTurn};
+ghost use Rattle.cj_machine.specs.CallRuns.{IsRun};
 
-use crate::machine::Machine;
 use crate::places::{caller_at, entry_at};
-use crate::scratch::Scratch;
-use crate::steps::Step;
 use crate::watch::Watch;
 use cj_activations::{Activations, Waits};
 use cj_base::{End, Turned};
 use cj_calls::{Look, Looks, Notes};
 use cj_ir::{Checked, FunId, Instr, Label, NoMemory, Reg, ScriptCall, Values};
+use cj_machine::{Machine, Scratch, Step};
 use std::alloc::Global;
 
 /// A program, the state of a run of it, and room for what an instruction reads.
@@ -131,17 +130,17 @@ impl<'p> Runner<'p> {
     ) -> Result<Turned, NoMemory>
         requires ready { W.ready watch.old }
         requires program { W.program watch.old ≡ self.old.checked.now }
-        requires fits { IsReady self.old.checked.now (W.codes watch.old) self.old.scratch.values.items function label (state_of self.old.machine) step }
+        requires fits { IsReady self.old.checked.now (W.codes watch.old) self.old.scratch function label (state_of self.old.machine) step }
         ensures made { IfOk result (λ answer. (turn : Turn) (before : State) →
-            IsStep self.old.checked.now turn self.old.scratch.values.items before (state_of self.old.machine) step →
+            IsStep self.old.checked.now turn self.old.scratch before (state_of self.old.machine) step →
             turn (W.codes watch.new) (slice_get self.new.machine.looks (length self.old.machine.looks))
             ≡ progress_of answer (state_of self.new.machine)) }
         ensures gains { IfOk result (λ answer. Gains self.old.machine.looks self.new.machine.looks (W.trail watch.old) (W.trail watch.new)) }
-        ensures went { IfOk result (λ answer. W.went watch.old watch.new (marks_told step function label self.old.scratch.values.items)) }
+        ensures went { IfOk result (λ answer. W.went watch.old watch.new (marks_told step function label self.old.scratch)) }
         ensures only_then { IfErr result (λ refused. IsEntry step) }
         ensures no_memory { OnErr result (self.new.machine ≡ self.old.machine) }
         ensures told { OnErr result (TellsAtMost (W.went watch.old watch.new) (W.trail watch.old) (W.trail watch.new)
-            (marks_told step function label self.old.scratch.values.items)) }
+            (marks_told step function label self.old.scratch)) }
         ensures checked { self.new.checked ≡ self.old.checked }
         ensures keeps { Keeps W.program W.codes W.stays W.ready watch.old watch.new }
     {
@@ -179,16 +178,16 @@ impl<'p> Runner<'p> {
         requires ready { W.ready watch.old }
         requires program { W.program watch.old ≡ self.old.checked.now }
         requires early { IsEarly (state_of self.old.machine) }
-        requires takes { Takes self.old.checked.now.functions function (length self.old.scratch.values.items) }
+        requires takes { Takes self.old.checked.now.functions function (length self.old.scratch) }
         ensures made { OnOk result (turn_by self.old.checked.now (W.codes watch.new)
             (slice_get self.new.machine.looks (length self.old.machine.looks)) (state_of self.old.machine)
-            self.old.machine.activations.top (Calls dest function self.old.scratch.values.items next)
+            self.old.machine.activations.top (Calls dest function self.old.scratch next)
             ≡ Continues (state_of self.new.machine)) }
         ensures gains { OnOk result (Gains self.old.machine.looks self.new.machine.looks (W.trail watch.old) (W.trail watch.new)) }
-        ensures went { OnOk result (W.went watch.old watch.new (Entered function self.old.scratch.values.items ∷ [])) }
+        ensures went { OnOk result (W.went watch.old watch.new (Entered function self.old.scratch ∷ [])) }
         ensures no_memory { OnErr result (self.new.machine ≡ self.old.machine) }
         ensures told { OnErr result (TellsAtMost (W.went watch.old watch.new) (W.trail watch.old) (W.trail watch.new)
-            (Entered function self.old.scratch.values.items ∷ [])) }
+            (Entered function self.old.scratch ∷ [])) }
         ensures checked { self.new.checked ≡ self.old.checked }
         ensures keeps { Keeps W.program W.codes W.stays W.ready watch.old watch.new }
     {

@@ -5,17 +5,17 @@ ghost use Rattle.cj_ir.specs.declared.language.Label.{Label};
 ghost use Rattle.cj_activations.specs.Changes.{position_of};
 ghost use Rattle.cj_activations.specs.declared.windows.Position.TheVariants.{Base, Version};
 ghost use Rattle.cj_engine.specs.Watching.{Gains, Keeps};
-ghost use Rattle.cj_engine.specs.Machines.{state_of};
+ghost use Rattle.cj_machine.specs.Machines.{state_of};
 ghost use Rattle.cj_engine.specs.Engines.{HasRoom};
 ghost use Rattle.cj_engine.specs.Stretches.{Glides, Starves, Onward, Stretched, Halted};
 
 use crate::places::{base_label_in, instr_in, label_of, line_in};
 use crate::runner::Runner;
-use crate::steps::Step;
 use crate::watch::Watch;
 use cj_activations::Position;
 use cj_base::Turned;
 use cj_ir::{FunId, Label, NoMemory};
+use cj_machine::Step;
 
 /// Where turns of a version stopped, and what the last one left to do.
 #[derive(Clone, Copy)]
@@ -142,7 +142,7 @@ impl Runner<'_> {
         requires place { (label : Label) × (position_of self.old.machine.activations.top ≡ Version function offset label) }
         requires found { IsSome (W.codes watch.now function offset) }
         requires room { HasRoom self.old.checked.now (W.codes watch.now) count (state_of self.old.machine) }
-        ensures made { IfOk result (λ stop. Glides self.old.checked.now (W.codes watch.now) self.new.scratch.values.items function stop.label count
+        ensures made { IfOk result (λ stop. Glides self.old.checked.now (W.codes watch.now) self.new.scratch function stop.label count
             (state_of self.old.machine) (state_of self.new.machine) stop.step) }
         ensures starved { OnErr result (Starves self.old.checked.now (W.codes watch.now) count (state_of self.old.machine) (state_of self.new.machine)) }
         ensures looks { self.new.machine.looks ≡ self.old.machine.looks }

@@ -4,10 +4,10 @@ ghost use Rattle.std.specs.Prelude.{◌≡◌, ◌≢◌, ◌<◌, List, [], ◌
 ghost use Rattle.cj_ir.specs.WellFormed.{Takes};
 ghost use Rattle.cj_ir.specs.declared.language.Program.{Program};
 ghost use Rattle.cj_calls.specs.declared.report.Look.{Look};
-ghost use Rattle.cj_engine.specs.Versions.{Codes};
-ghost use Rattle.cj_engine.specs.Marks.{Mark, Entered, Branched, FailedIn};
-ghost use Rattle.cj_engine.specs.CodeMaps.{SoundCodes, Grows};
-ghost use Rattle.cj_engine.specs.Watching.{IsBranch, TellsAtMost};
+ghost use Rattle.cj_machine.specs.Versions.{Codes};
+ghost use Rattle.cj_machine.specs.Marks.{Mark, Entered, Branched, FailedIn, IsBranch};
+ghost use Rattle.cj_machine.specs.CodeMaps.{SoundCodes, Grows};
+ghost use Rattle.cj_engine.specs.Watching.{TellsAtMost};
 
 use cj_draft::Version;
 use cj_ir::{Edge, FunId, Label, NoMemory};

@@ -5,12 +5,12 @@ use Rattle.cj_ir.specs.declared.language.Program.{Program}
 use Rattle.cj_base.specs.Run.{Begun}
 use Rattle.cj_calls.specs.declared.report.Look.{Look}
 use Rattle.cj_calls.specs.declared.report.Report.{Report}
-use Rattle.cj_engine.specs.Versions.{Codes, Progress, Undefined}
-use Rattle.cj_engine.specs.VersionRuns.{version_run, report_at, version_report}
-use Rattle.cj_engine.specs.Marks.{Mark, run_marks}
-use Rattle.cj_engine.specs.CodeMaps.{Grows}
-use Rattle.cj_engine.proofs.Runs.{report_kept}
-use Rattle.cj_engine.proofs.RunMarks.{marks_later}
+use Rattle.cj_machine.specs.Versions.{Codes, Progress, Undefined}
+use Rattle.cj_machine.specs.VersionRuns.{version_run, report_at, version_report}
+use Rattle.cj_machine.specs.Marks.{Mark, run_marks}
+use Rattle.cj_machine.specs.CodeMaps.{Grows}
+use Rattle.cj_machine.proofs.Runs.{report_kept}
+use Rattle.cj_machine.proofs.RunMarks.{marks_later}
 use Rattle.cj_profile.specs.declared.view.Read.{Read}
 use Rattle.cj_parts.specs.Parts.{InParts, MarkPart}
 use Rattle.cj_parts.specs.Calls.{IsV, CallPart}

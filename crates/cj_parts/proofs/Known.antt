@@ -7,8 +7,8 @@ use Rattle.cj_ir.specs.declared.language.FunId.{FunId}
 use Rattle.cj_draft.specs.declared.code.Code.{Code}
 use Rattle.cj_codec.specs.Reading.{decoded}
 use Rattle.cj_codec.proofs.CodeFormats.{decoded_exactly}
-use Rattle.cj_engine.specs.Versions.{Codes}
-use Rattle.cj_engine.specs.CodeMaps.{Grows}
+use Rattle.cj_machine.specs.Versions.{Codes}
+use Rattle.cj_machine.specs.CodeMaps.{Grows}
 use Rattle.cj_publish.specs.declared.view.Cell.{Cell}
 use Rattle.cj_publish.specs.declared.view.Region.{Region}
 use Rattle.cj_publish.specs.declared.view.View.{View}

@@ -5,9 +5,9 @@ use Rattle.cj_base.specs.Run.{Begun}
 use Rattle.cj_calls.specs.declared.report.Look.{Look}
 use Rattle.cj_calls.specs.declared.report.Report.{Report}
 use Rattle.cj_calls.specs.Reports.{ReportStands, IsWhole}
-use Rattle.cj_engine.specs.Versions.{Codes}
-use Rattle.cj_engine.specs.VersionRuns.{version_report}
-use Rattle.cj_engine.specs.Marks.{run_marks}
+use Rattle.cj_machine.specs.Versions.{Codes}
+use Rattle.cj_machine.specs.VersionRuns.{version_report}
+use Rattle.cj_machine.specs.Marks.{run_marks}
 use Rattle.cj_engine.specs.Stopped.{Stopped}
 use Rattle.cj_profile.specs.declared.view.Read.{Read}
 use Rattle.cj_publish.specs.declared.view.View.{View}

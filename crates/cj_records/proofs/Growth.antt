@@ -3,8 +3,8 @@ use Rattle.std.specs.Prelude.{List}
 use Rattle.cj_ir.specs.declared.language.Program.{Program}
 use Rattle.cj_base.specs.Run.{Begun}
 use Rattle.cj_calls.specs.declared.report.Report.{Report}
-use Rattle.cj_engine.specs.Versions.{Codes}
-use Rattle.cj_engine.specs.CodeMaps.{Grows}
+use Rattle.cj_machine.specs.Versions.{Codes}
+use Rattle.cj_machine.specs.CodeMaps.{Grows}
 use Rattle.cj_profile.specs.declared.view.Read.{Read}
 use Rattle.cj_parts.specs.PartsLaws.{parts_weaker}
 use Rattle.cj_parts.specs.Calls.{IsV}

@@ -7,8 +7,8 @@ use Rattle.std.proofs.lemmas.List.Sums.{sum_by-append}
 use Rattle.cj_ir.specs.declared.language.Program.{Program}
 use Rattle.cj_ir.specs.declared.script.Setup.{Setup}
 use Rattle.cj_calls.specs.declared.report.Report.{Report}
-use Rattle.cj_engine.specs.Versions.{Codes}
-use Rattle.cj_engine.specs.CodeMaps.{Grows}
+use Rattle.cj_machine.specs.Versions.{Codes}
+use Rattle.cj_machine.specs.CodeMaps.{Grows}
 use Rattle.cj_profile.specs.declared.view.Read.{Read}
 use Rattle.cj_profile.specs.declared.profile.ProfileSeat.{ProfileSeat}
 use Rattle.cj_profile.specs.Seats as counts

@@ -8,7 +8,7 @@ use Rattle.cj_ir.specs.declared.script.Setup.{Setup}
 use Rattle.cj_base.specs.Run.{Begun}
 use Rattle.cj_calls.specs.declared.report.Look.{Look}
 use Rattle.cj_calls.specs.declared.report.Report.{Report}
-use Rattle.cj_engine.specs.CodeMaps.{no_codes, Grows}
+use Rattle.cj_machine.specs.CodeMaps.{no_codes, Grows}
 use Rattle.cj_profile.specs.declared.view.Read.{Read}
 use Rattle.cj_publish.specs.declared.view.View.{View}
 use Rattle.cj_publish.specs.Reliable.{IsReliable}

@@ -11,7 +11,7 @@ use Rattle.cj_ir.specs.declared.script.Setup.TheVariants.{Guess, Cold, Warm}
 use Rattle.cj_base.specs.Run.{Begun}
 use Rattle.cj_calls.specs.declared.report.Look.{Look}
 use Rattle.cj_calls.specs.declared.report.Report.{Report}
-use Rattle.cj_engine.specs.CodeMaps.{no_codes}
+use Rattle.cj_machine.specs.CodeMaps.{no_codes}
 use Rattle.cj_profile.specs.declared.view.Read.{Read}
 use Rattle.cj_profile.specs.declared.layout.Word.TheVariants as word
 use Rattle.cj_profile.specs.Reads.{load, add_one}

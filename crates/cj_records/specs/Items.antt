@@ -4,7 +4,7 @@ use Rattle.cj_ir.specs.declared.language.Program.{Program}
 use Rattle.cj_ir.specs.declared.script.Setup.{Setup}
 use Rattle.cj_base.specs.Run.{Begun}
 use Rattle.cj_calls.specs.declared.report.Report.{Report}
-use Rattle.cj_engine.specs.Versions.{Codes}
+use Rattle.cj_machine.specs.Versions.{Codes}
 use Rattle.cj_profile.specs.declared.view.Read.{Read}
 use Rattle.cj_notes.specs.declared.notes.WorkNote.{WorkNote}
 use Rattle.cj_notes.specs.JobParts.{WarmPart, WorkPart}

@@ -1,7 +1,7 @@
 -- Where the notes of a run published, and which code stands there.
 use Rattle.std.specs.Prelude.{◌≡◌, List, [], ◌∷◌, ◌++◌, All}
 use Rattle.cj_calls.specs.declared.report.Look.{Look}
-use Rattle.cj_engine.specs.Versions.{Codes}
+use Rattle.cj_machine.specs.Versions.{Codes}
 use Rattle.cj_notes.specs.declared.notes.WorkNote.{WorkNote}
 use Rattle.cj_notes.specs.declared.notes.WorkNote.TheVariants.{Published, Older, Full, TooLarge, NoneAsked, Taken}
 use Rattle.cj_notes.specs.Causes.{Noted}

@@ -12,7 +12,7 @@ use Rattle.cj_draft.specs.declared.code.Code.{Code}
 use Rattle.cj_base.specs.Run.{Begun, begun}
 use Rattle.cj_calls.specs.declared.report.Look.{Look}
 use Rattle.cj_calls.specs.declared.report.Report.{Report}
-use Rattle.cj_engine.specs.Versions.{Codes}
+use Rattle.cj_machine.specs.Versions.{Codes}
 use Rattle.cj_profile.specs.declared.view.Read.{Read}
 use Rattle.cj_profile.specs.Starts.{FromZeros}
 use Rattle.cj_profile.specs.Seats as counts
@@ -30,7 +30,7 @@ use Rattle.cj_notes.specs.Causes.{Noted}
 use Rattle.cj_notes.specs.Standing.{IsShown, NoteStands, NotesStand}
 use Rattle.cj_notes.proofs.Standing.{notes_later}
 use Rattle.cj_records.specs.declared.store.Store.{Store}
-use Rattle.cj_engine.specs.CodeMaps.{no_codes}
+use Rattle.cj_machine.specs.CodeMaps.{no_codes}
 use Rattle.cj_profile.specs.declared.profile.Profile.{Profile}
 use Rattle.cj_publish.specs.declared.seats.CodeTable.{CodeTable}
 use Rattle.cj_script.specs.Fitting.{FitsCall, FitsScript}

@@ -6,7 +6,7 @@ use Rattle.std.proofs.lemmas.List.{map-append}
 use Rattle.std.proofs.lemmas.List.Elements.{All-nil, All-push, All-weaker}
 use Rattle.cj_ir.specs.declared.language.FunId.{FunId}
 use Rattle.cj_ir.specs.declared.language.Program.{Program}
-use Rattle.cj_engine.specs.Marks.{Mark, Entered}
+use Rattle.cj_machine.specs.Marks.{Mark, Entered}
 use Rattle.cj_engine.specs.Watching.{TellsAtMost}
 use Rattle.cj_profile.specs.Seats.{AddsPart}
 use Rattle.cj_profile.specs.Seats as counts

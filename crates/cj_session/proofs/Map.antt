@@ -10,7 +10,7 @@ use Rattle.cj_ir.specs.declared.language.Program.{Program}
 use Rattle.cj_draft.specs.Bodies.{Body}
 use Rattle.cj_draft.specs.declared.code.Code.{Code}
 use Rattle.cj_draft.specs.Sound.{Sound}
-use Rattle.cj_engine.specs.CodeMaps.{SoundCodes, Grows}
+use Rattle.cj_machine.specs.CodeMaps.{SoundCodes, Grows}
 use Rattle.cj_publish.specs.declared.view.View.{View}
 use Rattle.cj_session.specs.Versions.{Entry, code_of, codes_in, IsWholeIn, EntriesKnown}
 

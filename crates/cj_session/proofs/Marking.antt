@@ -6,7 +6,7 @@ use Rattle.cj_profile.specs.declared.layout.Word.TheVariants as word
 use Rattle.cj_profile.specs.declared.profile.ProfileSeat.{ProfileSeat}
 use Rattle.cj_profile.specs.Reads.{add_one, raise, EnteredPart}
 use Rattle.cj_profile.specs.Seats.{reads_of, Adds, AddsPart}
-use Rattle.cj_engine.specs.Marks.{Entered, FailedIn}
+use Rattle.cj_machine.specs.Marks.{Entered, FailedIn}
 use Rattle.cj_parts.specs.Parts.{level_at_calls, level_at_fails, AskPart, MarkPart}
 
 -- the value found before a count

@@ -5,12 +5,12 @@ use Rattle.cj_ir.specs.declared.memory.NoMemory.{NoMemory}
 use Rattle.cj_base.specs.Run.{Begun}
 use Rattle.cj_calls.specs.declared.report.Look.{Look}
 use Rattle.cj_calls.specs.declared.report.Report.{Report}
-use Rattle.cj_engine.specs.VersionRuns.{version_report}
-use Rattle.cj_engine.specs.Memories.{version_memory}
+use Rattle.cj_machine.specs.VersionRuns.{version_report}
+use Rattle.cj_machine.specs.Memories.{version_memory}
 use Rattle.cj_engine.specs.declared.engine.Ran as engine
-use Rattle.cj_engine.proofs.Memories.{memory_kept}
-use Rattle.cj_engine.specs.Marks.{Mark, run_marks}
-use Rattle.cj_engine.specs.CodeMaps.{Grows}
+use Rattle.cj_machine.proofs.Memories.{memory_kept}
+use Rattle.cj_machine.specs.Marks.{Mark, run_marks}
+use Rattle.cj_machine.specs.CodeMaps.{Grows}
 use Rattle.cj_engine.specs.Stopped.{Stopped}
 use Rattle.cj_engine.proofs.Stopping.{stopped_later, stopped_once, stopped_by}
 use Rattle.cj_session.specs.declared.session.Session.{Session}

@@ -12,7 +12,7 @@ use Rattle.std.proofs.lemmas.Option.{same_Some}
 use Rattle.std.proofs.lemmas.List.Elements.{All-head, All-tail}
 use Rattle.cj_ir.specs.declared.language.Program.{Program}
 use Rattle.cj_draft.specs.Bodies.{Body}
-use Rattle.cj_engine.specs.CodeMaps.{Grows}
+use Rattle.cj_machine.specs.CodeMaps.{Grows}
 use Rattle.cj_session.specs.Versions.{Entry, code_of, codes_in, IsWholeIn, EntriesKnown}
 use Rattle.cj_parts.specs.Known.{known_codes}
 use Rattle.cj_parts.proofs.Known.{code_is}

@@ -4,8 +4,8 @@ use Rattle.std.proofs.lemmas.List.{map-append}
 use Rattle.std.proofs.lemmas.List.Elements.{All-nil, All-append, All-weaker}
 use Rattle.cj_ir.specs.declared.language.FunId.{FunId}
 use Rattle.cj_calls.specs.declared.report.Look.{Look}
-use Rattle.cj_engine.specs.CodeMaps.{SoundCodes}
-use Rattle.cj_engine.specs.Marks.{Mark, Entered, Branched, FailedIn}
+use Rattle.cj_machine.specs.CodeMaps.{SoundCodes}
+use Rattle.cj_machine.specs.Marks.{Mark, Entered, Branched, FailedIn}
 use Rattle.cj_profile.specs.Seats as counts
 use Rattle.cj_profile.specs.declared.profile.ProfileSeat.{ProfileSeat}
 use Rattle.cj_publish.specs.declared.seats.CodeSeat.{CodeSeat}

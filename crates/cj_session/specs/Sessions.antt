@@ -2,8 +2,8 @@
 use Rattle.std.specs.Prelude.{◌≡◌, ℕ, List, [], ◌∷◌, ◌++◌, map, All, None}
 use Rattle.cj_ir.specs.declared.language.FunId.{FunId}
 use Rattle.cj_calls.specs.declared.report.Look.{Look}
-use Rattle.cj_engine.specs.Versions.{Codes}
-use Rattle.cj_engine.specs.Marks.{Mark, Entered, Branched, FailedIn}
+use Rattle.cj_machine.specs.Versions.{Codes}
+use Rattle.cj_machine.specs.Marks.{Mark, Entered, Branched, FailedIn}
 use Rattle.cj_profile.specs.Seats as counts
 use Rattle.cj_profile.specs.declared.view.Read.{Read}
 use Rattle.cj_publish.specs.declared.view.Cell.{Cell}

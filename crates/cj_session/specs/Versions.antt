@@ -5,8 +5,8 @@ use Rattle.std.specs.Option.{option_map}
 use Rattle.cj_ir.specs.declared.language.Program.{Program}
 use Rattle.cj_draft.specs.Bodies.{Body}
 use Rattle.cj_draft.specs.declared.code.Code.{Code}
-use Rattle.cj_engine.specs.Versions.{Codes}
-use Rattle.cj_engine.specs.CodeMaps.{SoundCodes}
+use Rattle.cj_machine.specs.Versions.{Codes}
+use Rattle.cj_machine.specs.CodeMaps.{SoundCodes}
 use Rattle.cj_publish.specs.declared.view.View.{View}
 use Rattle.cj_publish.specs.Fetched.{main_of, HasVersion}
 use Rattle.cj_session.specs.declared.versions.Versions.{Versions}

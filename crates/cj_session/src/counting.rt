@@ -2,7 +2,7 @@
 
 ghost use Rattle.std.specs.Prelude.{◌≡◌, ◌<◌, length};
 ghost use Rattle.cj_ir.specs.Program.{param_count};
-ghost use Rattle.cj_engine.specs.Marks.{Entered, FailedIn};
+ghost use Rattle.cj_machine.specs.Marks.{Entered, FailedIn};
 ghost use Rattle.cj_profile.specs.Seats.{program_of, Belongs, IsSame, AddsPart};
 ghost use Rattle.cj_parts.specs.Parts.{MarkPart};
 

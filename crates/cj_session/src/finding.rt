@@ -1,7 +1,7 @@
 //! What a lookup finds.
 
 ghost use Rattle.std.specs.Prelude.{◌≡◌, ◌≢◌, ℕ, IfOk, OnErr, IsSome};
-ghost use Rattle.cj_engine.specs.CodeMaps.{Grows};
+ghost use Rattle.cj_machine.specs.CodeMaps.{Grows};
 ghost use Rattle.cj_publish.specs.Cells.{IsCell};
 ghost use Rattle.cj_publish.specs.Fetched.{main_of};
 ghost use Rattle.cj_publish.specs.Seats.{view_of, key_of, program_of, Belongs, IsSame};

@@ -4,7 +4,7 @@ ghost use Rattle.std.specs.Prelude.{◌≡◌, ◌≤◌, None, Some, IfOk, OnEr
 ghost use Rattle.cj_ir.specs.WellFormed.{Takes};
 ghost use Rattle.cj_base.specs.Run.{begun};
 ghost use Rattle.cj_engine.specs.Engines.{begun_with};
-ghost use Rattle.cj_engine.specs.Memories.{base_memory, version_memory};
+ghost use Rattle.cj_machine.specs.Memories.{base_memory, version_memory};
 ghost use Rattle.cj_profile.specs.Seats as counts;
 ghost use Rattle.cj_publish.specs.Seats.{view_of, key_of, program_of, Belongs};
 ghost use Rattle.cj_parts.specs.Known.{known_codes};

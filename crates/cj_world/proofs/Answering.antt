@@ -8,9 +8,9 @@ use Rattle.cj_base.specs.Run.{Begun, begun}
 use Rattle.cj_calls.specs.declared.report.Look.{Look}
 use Rattle.cj_calls.specs.declared.report.Report.{Report}
 use Rattle.cj_calls.specs.Reports.{ReportStands, IsWhole}
-use Rattle.cj_engine.specs.Versions.{Codes}
-use Rattle.cj_engine.specs.VersionRuns.{version_report}
-use Rattle.cj_engine.specs.CodeMaps.{SoundCodes}
+use Rattle.cj_machine.specs.Versions.{Codes}
+use Rattle.cj_machine.specs.VersionRuns.{version_report}
+use Rattle.cj_machine.specs.CodeMaps.{SoundCodes}
 use Rattle.cj_events.specs.declared.events.Event.{Event}
 use Rattle.cj_world.specs.declared.played.Played.{Played}
 use Rattle.cj_world.specs.declared.runs.Run as code

@@ -15,11 +15,11 @@ use Rattle.cj_draft.specs.declared.passes.Skipped.{Skipped}
 use Rattle.cj_spelling.specs.Counting.{capped}
 use Rattle.cj_calls.specs.declared.report.Look.{Look}
 use Rattle.cj_calls.specs.declared.report.Report.{Report}
-use Rattle.cj_engine.specs.Versions.{State, Codes}
-use Rattle.cj_engine.specs.VersionRuns.{version_report}
-use Rattle.cj_engine.specs.CodeMaps.{Grows}
+use Rattle.cj_machine.specs.Versions.{State, Codes}
+use Rattle.cj_machine.specs.VersionRuns.{version_report}
+use Rattle.cj_machine.specs.CodeMaps.{Grows}
 use Rattle.cj_engine.specs.Watching.{Gains}
-use Rattle.cj_engine.specs.Engines.{IsRun}
+use Rattle.cj_machine.specs.CallRuns.{IsRun}
 use Rattle.cj_world.specs.declared.cache.Cache.{Cache}
 use Rattle.cj_world.specs.declared.played.Compiled.{Compiled}
 use Rattle.cj_world.specs.declared.played.Compiled.TheVariants.{Published, TooLarge, Full}

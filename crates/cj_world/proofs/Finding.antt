@@ -13,7 +13,7 @@ use Rattle.cj_ir.specs.declared.language.Program.{Program}
 use Rattle.cj_draft.specs.Bodies.{Body}
 use Rattle.cj_draft.specs.declared.code.Code.{Code}
 use Rattle.cj_draft.specs.Sound.{Sound}
-use Rattle.cj_engine.specs.CodeMaps.{SoundCodes, Grows}
+use Rattle.cj_machine.specs.CodeMaps.{SoundCodes, Grows}
 use Rattle.cj_world.specs.Worlds.{Made, code_at, own_code, codes_in, offset_of}
 use Rattle.cj_world.specs.Caches.{made_of, AreVersions}
 

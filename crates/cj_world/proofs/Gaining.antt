@@ -4,8 +4,8 @@ use Rattle.std.specs.Prelude.{nat_lt, ⊤}
 use Rattle.std.proofs.lemmas.List.{drop_at}
 use Rattle.cj_ir.specs.declared.language.Program.{Program}
 use Rattle.cj_calls.specs.declared.report.Look.{Look}
-use Rattle.cj_engine.specs.Versions.{State, Codes, Progress, Continues, Finishes, Undefined}
-use Rattle.cj_engine.specs.Marks.{Mark, Entered, Branched, FailedIn, turn_marks}
+use Rattle.cj_machine.specs.Versions.{State, Codes, Progress, Continues, Finishes, Undefined}
+use Rattle.cj_machine.specs.Marks.{Mark, Entered, Branched, FailedIn, turn_marks}
 use Rattle.cj_world.specs.Worlds.{Run, offset_of, look_at, looks_of, turned, turned_by, one_turn, turns}
 
 -- each look finds its function's current version

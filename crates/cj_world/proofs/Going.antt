@@ -5,10 +5,10 @@ use Rattle.cj_base.specs.declared.machine.End.{End}
 use Rattle.cj_base.specs.declared.machine.Turned.{Turned}
 use Rattle.cj_base.specs.declared.machine.Turned.TheVariants.{Running, Ended}
 use Rattle.cj_calls.specs.declared.report.Look.{Look}
-use Rattle.cj_engine.specs.Versions.{State, Codes, Progress, Continues, Finishes}
+use Rattle.cj_machine.specs.Versions.{State, Codes, Progress, Continues, Finishes}
 use Rattle.cj_engine.specs.Stretches.{turns_from, marks_from}
 use Rattle.cj_engine.specs.Watching.{Gains}
-use Rattle.cj_engine.specs.Machines.{progress_of}
+use Rattle.cj_machine.specs.Machines.{progress_of}
 use Rattle.cj_engine.proofs.Paths.{turns_counted}
 use Rattle.cj_world.specs.Worlds.{Run, looks_of, one_turn, turns}
 use Rattle.cj_world.specs.Running.{progress_by, end_told}

@@ -5,10 +5,10 @@ use Rattle.cj_base.specs.declared.machine.End.{End}
 use Rattle.cj_base.specs.declared.machine.End.TheVariants.{TurnLimit}
 use Rattle.cj_base.specs.Run.{Begun}
 use Rattle.cj_calls.specs.declared.report.Look.{Look}
-use Rattle.cj_engine.specs.Versions.{State, Codes}
-use Rattle.cj_engine.specs.VersionRuns.{report_of, report_at, version_report}
-use Rattle.cj_engine.specs.Engines.{IsRun}
-use Rattle.cj_engine.proofs.Runs.{used_whole}
+use Rattle.cj_machine.specs.Versions.{State, Codes}
+use Rattle.cj_machine.specs.VersionRuns.{report_of, report_at, version_report}
+use Rattle.cj_machine.specs.CallRuns.{IsRun}
+use Rattle.cj_machine.proofs.Runs.{used_whole}
 use Rattle.cj_world.specs.Running.{progress_by, end_answered, IsAt}
 
 pub read_at : (looks : List Look) (o : Option End) (s : State) → s.entries ≡ length looks → report_at looks (progress_by o s) ≡ Some (report_of looks (end_answered o) s)

@@ -9,12 +9,13 @@ use Rattle.cj_base.specs.declared.machine.Turned.{Turned}
 use Rattle.cj_base.specs.declared.machine.Turned.TheVariants.{Running, Ended}
 use Rattle.cj_base.specs.Run.{Begun}
 use Rattle.cj_calls.specs.declared.report.Look.{Look}
-use Rattle.cj_engine.specs.Versions.{State, Codes, Progress, Continues, Finishes, Undefined, version_turn}
-use Rattle.cj_engine.specs.VersionRuns.{version_start}
-use Rattle.cj_engine.specs.Marks.{turn_marks, start_marks}
+use Rattle.cj_machine.specs.Versions.{State, Codes, Progress, Continues, Finishes, Undefined, version_turn}
+use Rattle.cj_machine.specs.VersionRuns.{version_start}
+use Rattle.cj_machine.specs.Marks.{turn_marks, start_marks}
 use Rattle.cj_engine.specs.Watching.{Gains}
-use Rattle.cj_engine.specs.Machines.{progress_of}
-use Rattle.cj_engine.specs.Engines.{RunGoes, goes_on}
+use Rattle.cj_machine.specs.Machines.{progress_of}
+use Rattle.cj_engine.specs.Engines.{goes_on}
+use Rattle.cj_machine.specs.CallRuns.{RunGoes}
 use Rattle.cj_draft.specs.Bodies.{Body}
 use Rattle.cj_world.specs.declared.cache.Cache.{Cache}
 use Rattle.cj_world.specs.declared.runs.Run as code

@@ -10,7 +10,7 @@ use Rattle.cj_draft.specs.declared.code.Code.{Code}
 use Rattle.cj_draft.specs.declared.passes.Skipped.{Skipped}
 use Rattle.cj_spelling.specs.Counting.{capped}
 use Rattle.cj_calls.specs.declared.report.Look.{Look}
-use Rattle.cj_engine.specs.Marks.{start_marks}
+use Rattle.cj_machine.specs.Marks.{start_marks}
 use Rattle.cj_events.specs.declared.events.Event.{Event}
 use Rattle.cj_events.specs.declared.events.Event.TheVariants.{Begin, Step, Compile}
 use Rattle.cj_world.specs.declared.played.Compiled.TheVariants.{Published, TooLarge, Full}

@@ -3,9 +3,9 @@ use Rattle.std.proofs.Common.{◌≡◌, ◌∙◌, refl, sym, ap, subst, arith,
 use Rattle.std.specs.Prelude.{slice_get}
 use Rattle.cj_ir.specs.declared.language.Program.{Program}
 use Rattle.cj_calls.specs.declared.report.Look.{Look}
-use Rattle.cj_engine.specs.Versions.{State, Codes, Progress, Continues, Finishes, Undefined, version_turn}
-use Rattle.cj_engine.specs.VersionRuns.{one_turn_more}
-use Rattle.cj_engine.specs.Marks.{Mark, turn_marks, next_marks}
+use Rattle.cj_machine.specs.Versions.{State, Codes, Progress, Continues, Finishes, Undefined, version_turn}
+use Rattle.cj_machine.specs.VersionRuns.{one_turn_more}
+use Rattle.cj_machine.specs.Marks.{Mark, turn_marks, next_marks}
 use Rattle.cj_engine.specs.Stretches.{turns_from, marks_from}
 use Rattle.cj_engine.proofs.Paths.{turns_counted, marks_then}
 use Rattle.cj_world.specs.Worlds.{Run, looks_of, one_turn, turns}

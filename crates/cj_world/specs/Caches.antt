@@ -6,8 +6,8 @@ use Rattle.cj_ir.specs.declared.language.FunId.{FunId}
 use Rattle.cj_ir.specs.declared.language.Label.{Label}
 use Rattle.cj_ir.specs.declared.language.Program.{Program}
 use Rattle.cj_draft.specs.Bodies.{Body}
-use Rattle.cj_engine.specs.Marks.{Mark, Entered, Branched, FailedIn}
-use Rattle.cj_engine.specs.CodeMaps.{SoundCodes}
+use Rattle.cj_machine.specs.Marks.{Mark, Entered, Branched, FailedIn}
+use Rattle.cj_machine.specs.CodeMaps.{SoundCodes}
 use Rattle.cj_world.specs.declared.cache.Cache.{Cache}
 use Rattle.cj_world.specs.Worlds.{Made, codes_in, offset_of, look_at, looks_of}
 

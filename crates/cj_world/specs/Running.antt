@@ -10,9 +10,9 @@ use Rattle.cj_base.specs.Run.{Begun, begun}
 use Rattle.cj_calls.specs.declared.report.Look.{Look}
 use Rattle.cj_calls.specs.declared.report.Report.{Report}
 use Rattle.cj_spelling.specs.Counting.{capped}
-use Rattle.cj_engine.specs.Versions.{State, Codes, Progress, Continues, Finishes}
-use Rattle.cj_engine.specs.VersionRuns.{version_report, report_of}
-use Rattle.cj_engine.specs.Engines.{IsRun}
+use Rattle.cj_machine.specs.Versions.{State, Codes, Progress, Continues, Finishes}
+use Rattle.cj_machine.specs.VersionRuns.{version_report, report_of}
+use Rattle.cj_machine.specs.CallRuns.{IsRun}
 use Rattle.cj_world.specs.declared.runs.Run as code
 use Rattle.cj_world.specs.declared.world.World as whole
 use Rattle.cj_world.specs.declared.world.WordCount.{WordCount}

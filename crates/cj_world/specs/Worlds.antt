@@ -9,9 +9,9 @@ use Rattle.cj_draft.specs.declared.passes.Skipped.{Skipped}
 use Rattle.cj_spelling.specs.Counting.{capped}
 use Rattle.cj_spelling.specs.Spelling.{spelling}
 use Rattle.cj_calls.specs.declared.report.Look.{Look}
-use Rattle.cj_engine.specs.Versions.{State, Codes, Progress, Continues, Finishes, Undefined, version_turn}
-use Rattle.cj_engine.specs.VersionRuns.{version_start}
-use Rattle.cj_engine.specs.Marks.{Mark, Entered, Branched, FailedIn, turn_marks, start_marks}
+use Rattle.cj_machine.specs.Versions.{State, Codes, Progress, Continues, Finishes, Undefined, version_turn}
+use Rattle.cj_machine.specs.VersionRuns.{version_start}
+use Rattle.cj_machine.specs.Marks.{Mark, Entered, Branched, FailedIn, turn_marks, start_marks}
 use Rattle.cj_world.specs.declared.played.Compiled.{Compiled}
 use Rattle.cj_world.specs.declared.played.Compiled.TheVariants.{Published, TooLarge, Full}
 

@@ -13,7 +13,7 @@ use crate::played::Played;
 use crate::runs::Run;
 use crate::world::World;
 use cj_calls::Reports;
-use cj_engine::laws::reports_have_the_headline;
+use cj_machine::laws::reports_have_the_headline;
 use cj_events::Events;
 use cj_ir::{Checked, NoMemory};
 use std::alloc::Global;

@@ -3,8 +3,8 @@
 ghost use Rattle.std.specs.Prelude.{◌≡◌, ◌-◌, ◌++◌, min, length, None, Some, IfOk, OnOk};
 ghost use Rattle.cj_ir.specs.declared.language.Program.{Program};
 ghost use Rattle.cj_base.specs.Run.{begun};
-ghost use Rattle.cj_engine.specs.Versions.{Codes};
-ghost use Rattle.cj_engine.specs.VersionRuns.{version_report};
+ghost use Rattle.cj_machine.specs.Versions.{Codes};
+ghost use Rattle.cj_machine.specs.VersionRuns.{version_report};
 ghost use Rattle.cj_engine.specs.Watching.{Gains};
 ghost use Rattle.cj_events.specs.Playable.{CanBegin};
 ghost use Rattle.cj_world.specs.Worlds.{codes_in, begun_run, turns};
@@ -16,7 +16,7 @@ use crate::cache::Cache;
 use cj_base::{End, Turned};
 use cj_calls::Report;
 use cj_engine::Engine;
-use cj_engine::laws::limit_is_the_report;
+use cj_machine::laws::limit_is_the_report;
 use cj_ir::{Checked, NoMemory, ScriptCall};
 use std::alloc::Global;
 

@@ -19,7 +19,7 @@ use crate::played::{Compiled, CompiledList, Played, SkipLists};
 use crate::runs::Run;
 use cj_calls::Reports;
 use cj_draft::{Passes, Version};
-use cj_engine::laws::{later_codes_keep_a_report, later_codes_keep_a_run};
+use cj_machine::laws::{later_codes_keep_a_report, later_codes_keep_a_run};
 use cj_events::Event;
 use cj_ir::{Checked, FunId, NoMemory, ScriptCall};
 use cj_passes::pipeline;

@@ -2,7 +2,7 @@
 
 ghost use Rattle.std.specs.Prelude.{◌≡◌, ◌≤◌, true, length, ⊤, IfOk, None};
 ghost use Rattle.cj_ir.specs.WellFormed.{Takes};
-ghost use Rattle.cj_engine.specs.CodeMaps.{no_codes};
+ghost use Rattle.cj_machine.specs.CodeMaps.{no_codes};
 ghost use Rattle.cj_engine.specs.NoCodes.{no_codes_sound};
 ghost use Rattle.cj_engine.specs.Walks.{Walks};
 
@@ -52,7 +52,7 @@ impl<'p> Watch for Bodies<'p> {
         Ok(0)
     }
 
-    #[tactic(auto, unfolding(crate::specs::CodeMaps::no_codes))]
+    #[tactic(auto, unfolding(cj_machine::specs::CodeMaps::no_codes))]
     fn version(&self, _f: FunId, _offset: u64) -> &Version<'_> {
         unreachable!()
     }

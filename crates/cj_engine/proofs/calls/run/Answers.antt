@@ -2,8 +2,8 @@ use Rattle.std.proofs.Common.{◌≡◌, List, subst, Some}
 use Rattle.std.specs.Prelude.{ℤ}
 use Rattle.cj_base.specs.Run.{begun}
 use Rattle.cj_calls.specs.Reports.{ReportStands, IsWhole}
-use Rattle.cj_engine.specs.VersionRuns.{version_report}
-use Rattle.cj_engine.specs.Marks.{run_marks}
+use Rattle.cj_machine.specs.VersionRuns.{version_report}
+use Rattle.cj_machine.specs.Marks.{run_marks}
 use Rattle.cj_engine.specs.Engines.{begun_with}
 use Rattle.cj_engine.specs.Stopped.{Stopped}
 use Rattle.cj_engine.proofs.Onwards.{refused_so}

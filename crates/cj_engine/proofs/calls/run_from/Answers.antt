@@ -3,13 +3,14 @@ use Rattle.cj_ir.specs.declared.language.Program.{Program}
 use Rattle.cj_base.specs.Run.{Begun}
 use Rattle.cj_base.specs.declared.machine.Turned.{Turned}
 use Rattle.cj_calls.specs.declared.report.Look.{Look}
-use Rattle.cj_engine.specs.Versions.{State, Codes}
-use Rattle.cj_engine.specs.Marks.{Mark}
-use Rattle.cj_engine.specs.VersionRuns.{report_of}
-use Rattle.cj_engine.specs.CodeMaps.{SoundCodes}
-use Rattle.cj_engine.specs.Engines.{begun_with, HasRoom, IsRun, HasFinished, RunGoes, end_after}
+use Rattle.cj_machine.specs.Versions.{State, Codes}
+use Rattle.cj_machine.specs.Marks.{Mark}
+use Rattle.cj_machine.specs.VersionRuns.{report_of}
+use Rattle.cj_machine.specs.CodeMaps.{SoundCodes}
+use Rattle.cj_engine.specs.Engines.{begun_with, HasRoom, end_after}
+use Rattle.cj_machine.specs.CallRuns.{IsRun, HasFinished, RunGoes}
 use Rattle.cj_engine.specs.Stretches.{Onward, Halted}
-use Rattle.cj_engine.proofs.Reporting.{report_agrees}
+use Rattle.cj_machine.proofs.Reporting.{report_agrees}
 use Rattle.cj_engine.proofs.Keeping.{keeps_then}
 use Rattle.cj_engine.proofs.Onwards.{whole_run, whole_marks, refused_so}
 use Rattle.cj_engine.proofs.Stopping.{halted_stops}

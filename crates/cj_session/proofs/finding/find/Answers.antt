@@ -5,7 +5,7 @@ use Rattle.cj_ir.specs.declared.language.Program.{Program}
 use Rattle.cj_draft.specs.Bodies.{Body}
 use Rattle.cj_draft.specs.Sound.{Sound}
 use Rattle.cj_draft.specs.declared.code.Code.{Code}
-use Rattle.cj_engine.specs.CodeMaps.{Grows}
+use Rattle.cj_machine.specs.CodeMaps.{Grows}
 use Rattle.cj_publish.specs.Seats.{view_of}
 use Rattle.cj_publish.specs.Learns.{learns_twice}
 use Rattle.cj_session.specs.Versions.{Entry, codes_in, EntriesKnown}

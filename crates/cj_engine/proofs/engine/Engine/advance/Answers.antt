@@ -1,7 +1,7 @@
 use Rattle.std.proofs.Common.{◌∙◌, refl, sym, ap, subst}
 use Rattle.cj_ir.specs.declared.language.Program.{Program}
-use Rattle.cj_engine.specs.Machines.{state_of}
-use Rattle.cj_engine.specs.CodeMaps.{SoundCodes}
+use Rattle.cj_machine.specs.Machines.{state_of}
+use Rattle.cj_machine.specs.CodeMaps.{SoundCodes}
 use Rattle.cj_engine.specs.Engines.{EngineView}
 use Rattle.cj_engine.proofs.Onwards.{path_goes}
 use Rattle.cj_engine.proofs.engine.Engine.advance.Goals as goal

@@ -1,6 +1,6 @@
 use Rattle.std.proofs.Common.{refl}
-use Rattle.cj_engine.specs.Machines.{state_of}
-use Rattle.cj_engine.specs.VersionRuns.{report_of}
+use Rattle.cj_machine.specs.Machines.{state_of}
+use Rattle.cj_machine.specs.VersionRuns.{report_of}
 use Rattle.cj_engine.proofs.engine.Engine.ran.Goals as goal
 
 pub returns-clause-report : goal.returns-clause-report

@@ -1,10 +1,11 @@
 use Rattle.std.proofs.Common.{◌≡◌, List, subst}
 use Rattle.std.specs.Prelude.{ℤ, slice_get}
 use Rattle.cj_base.specs.Run.{begun}
-use Rattle.cj_engine.specs.Versions.{Continues}
-use Rattle.cj_engine.specs.VersionRuns.{version_start}
-use Rattle.cj_engine.specs.Marks.{start_marks}
-use Rattle.cj_engine.specs.Engines.{begun_with, IsRun}
+use Rattle.cj_machine.specs.Versions.{Continues}
+use Rattle.cj_machine.specs.VersionRuns.{version_start}
+use Rattle.cj_machine.specs.Marks.{start_marks}
+use Rattle.cj_engine.specs.Engines.{begun_with}
+use Rattle.cj_machine.specs.CallRuns.{IsRun}
 use Rattle.cj_engine.proofs.Onwards.{refused_so}
 use Rattle.cj_engine.proofs.engine.Engine.start.Goals as goal
 

@@ -1,4 +1,4 @@
-use Rattle.cj_engine.specs.Machines.{state_of}
+use Rattle.cj_machine.specs.Machines.{state_of}
 use Rattle.cj_engine.proofs.engine.Engine.start_from.Goals as goal
 
 pub returns-clause-no_turns : goal.returns-clause-no_turns

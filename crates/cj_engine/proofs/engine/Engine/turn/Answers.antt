@@ -1,15 +1,15 @@
 use Rattle.std.proofs.Common.{◌∙◌, refl, sym, ap, subst, arith, false}
 use Rattle.cj_ir.specs.declared.language.Program.{Program}
-use Rattle.cj_engine.specs.Machines.{state_of}
-use Rattle.cj_engine.specs.Marks.{turn_marks}
-use Rattle.cj_engine.specs.Versions.{Progress}
-use Rattle.cj_engine.specs.CodeMaps.{SoundCodes}
-use Rattle.cj_engine.specs.Stands.{Holds}
+use Rattle.cj_machine.specs.Machines.{state_of}
+use Rattle.cj_machine.specs.Marks.{turn_marks}
+use Rattle.cj_machine.specs.Versions.{Progress}
+use Rattle.cj_machine.specs.CodeMaps.{SoundCodes}
+use Rattle.cj_machine.specs.Stands.{Holds}
 use Rattle.cj_engine.specs.Watching.{TellsAtMost}
-use Rattle.cj_engine.specs.Stepping.{TurnTakesMemory}
+use Rattle.cj_machine.specs.Stepping.{TurnTakesMemory}
 use Rattle.cj_engine.specs.Engines.{EngineView}
-use Rattle.cj_engine.proofs.Turns.{later_turn_holds}
-use Rattle.cj_engine.proofs.Going.{turn_counted}
+use Rattle.cj_machine.proofs.Turns.{later_turn_holds}
+use Rattle.cj_machine.proofs.Going.{turn_counted}
 use Rattle.cj_engine.proofs.Turning.{refused_then}
 use Rattle.cj_engine.proofs.Onwards.{onward_one, path_goes, halted_at_once, same_view, refused_so}
 use Rattle.cj_engine.proofs.engine.Engine.turn.Goals as goal

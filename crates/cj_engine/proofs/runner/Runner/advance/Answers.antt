@@ -1,11 +1,11 @@
 use Rattle.std.proofs.Common.{◌≡◌, ◌∙◌, refl, sym, subst, arith, ℕ, ◌+◌, ◌-◌, ◌<◌, ◌≤◌, List}
 use Rattle.cj_ir.specs.declared.language.Program.{Program}
 use Rattle.cj_base.specs.declared.machine.Turned.{Turned}
-use Rattle.cj_engine.specs.CodeMaps.{SoundCodes}
+use Rattle.cj_machine.specs.CodeMaps.{SoundCodes}
 use Rattle.cj_calls.specs.declared.report.Look.{Look}
-use Rattle.cj_engine.specs.Versions.{State, Codes}
-use Rattle.cj_engine.specs.Marks.{Mark}
-use Rattle.cj_engine.specs.Machines.{state_of}
+use Rattle.cj_machine.specs.Versions.{State, Codes}
+use Rattle.cj_machine.specs.Marks.{Mark}
+use Rattle.cj_machine.specs.Machines.{state_of}
 use Rattle.cj_engine.specs.Engines.{HasRoom}
 use Rattle.cj_engine.specs.Stretches.{Onward, Stretched, Halted}
 use Rattle.cj_engine.proofs.Keeping.{keeps_none, keeps_then}

@@ -1,6 +1,6 @@
 use Rattle.std.proofs.Common.{◌≡◌, ◌-◌, ◌+◌, ◌≤◌}
 use Rattle.cj_base.specs.declared.machine.Turned.TheVariants.{Running}
-use Rattle.cj_engine.specs.Machines.{state_of}
+use Rattle.cj_machine.specs.Machines.{state_of}
 use Rattle.cj_engine.specs.Watching.{Gains, Keeps}
 use Rattle.cj_engine.specs.Stretches.{Onward}
 use Rattle.cj_engine.proofs.runner.Runner.advance.Given as goal

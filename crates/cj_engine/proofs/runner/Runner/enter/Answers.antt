@@ -1,5 +1,5 @@
 use Rattle.std.proofs.Common.{refl}
-use Rattle.cj_engine.specs.Machines.{state_of}
+use Rattle.cj_machine.specs.Machines.{state_of}
 use Rattle.cj_engine.proofs.Carrying.{call_made}
 use Rattle.cj_engine.proofs.Onwards.{entry_told, refused_so}
 use Rattle.cj_engine.proofs.runner.Runner.enter.Goals as goal
@@ -14,7 +14,7 @@ returns-in-Ok-clause-made g c =
     let old = c.args.self.now.machine in
     let call = rw c.items-args.ensures at c.in-Ok.ensures.ok in
     rw c.count.ensures
-    (call_made c.args.self.now.checked.now _ (state_of old) old.looks c.push.new.self _ c.args.dest c.args.function c.args.self.now.scratch.values.items c.args.next
+    (call_made c.args.self.now.checked.now _ (state_of old) old.looks c.push.new.self _ c.args.dest c.args.function c.args.self.now.scratch c.args.next
     _ _ c.call.new.self c.in_ok-push.ensures.ok refl (c.entry_at-entry.ensures _) call)
 
 pub returns-in_err-offset-clause-told : goal.returns-in_err-offset-clause-told
@@ -24,9 +24,9 @@ returns-in_err-offset-clause-told g c =
 pub returns-in_err-push-clause-told : goal.returns-in_err-push-clause-told
 returns-in_err-push-clause-told g c =
     let told = rw c.items-args.ensures at c.in_ok-offset.ensures.went in
-    refused_so _ _ (entry_told (g.W.Watch.went c.args.watch.now c.enter.new.self) (g.W.Watch.trail c.args.watch.now) (g.W.Watch.trail c.enter.new.self) c.args.function c.args.self.now.scratch.values.items c.in_ok-offset.offset told c.in_ok-offset.ensures.looked)
+    refused_so _ _ (entry_told (g.W.Watch.went c.args.watch.now c.enter.new.self) (g.W.Watch.trail c.args.watch.now) (g.W.Watch.trail c.enter.new.self) c.args.function c.args.self.now.scratch c.in_ok-offset.offset told c.in_ok-offset.ensures.looked)
 
 pub returns-in-Err-clause-told : goal.returns-in-Err-clause-told
 returns-in-Err-clause-told g c =
     let told = rw c.items-args.ensures at c.in_ok-offset.ensures.went in
-    entry_told (g.W.Watch.went c.args.watch.now c.enter.new.self) (g.W.Watch.trail c.args.watch.now) (g.W.Watch.trail c.enter.new.self) c.args.function c.args.self.now.scratch.values.items c.in_ok-offset.offset told c.in_ok-offset.ensures.looked
+    entry_told (g.W.Watch.went c.args.watch.now c.enter.new.self) (g.W.Watch.trail c.args.watch.now) (g.W.Watch.trail c.enter.new.self) c.args.function c.args.self.now.scratch c.in_ok-offset.offset told c.in_ok-offset.ensures.looked

@@ -1,5 +1,5 @@
 use Rattle.std.proofs.Common.{◌≡◌, ◌∙◌, sym, ap, rules, to_z, of_z, w64, Some}
-use Rattle.cj_engine.specs.Machines.{state_of}
+use Rattle.cj_machine.specs.Machines.{state_of}
 use Rattle.cj_engine.proofs.Carrying.{base_dest, base_returned, version_innermost, version_dest, version_returned, none_returned}
 use Rattle.cj_engine.proofs.runner.Runner.give_back.Goals as goal
 

@@ -3,14 +3,14 @@ use Rattle.cj_ir.specs.declared.language.Label.{Label}
 use Rattle.cj_ir.specs.declared.language.Program.{Program}
 use Rattle.cj_activations.specs.declared.windows.Position.TheVariants.{Version}
 use Rattle.cj_draft.specs.declared.code.Code.{Code}
-use Rattle.cj_engine.specs.Machines.{state_of}
-use Rattle.cj_engine.specs.CodeMaps.{SoundCodes}
+use Rattle.cj_machine.specs.Machines.{state_of}
+use Rattle.cj_machine.specs.CodeMaps.{SoundCodes}
 use Rattle.cj_engine.proofs.Gliding.{room_turns, room_after, placed_here, stands_here, goes_quietly, stops_here}
 use Rattle.cj_engine.proofs.Turning.{version_few, version_back, version_fine, version_takes, version_stays}
 use Rattle.cj_engine.proofs.Onwards.{refused_so}
-use Rattle.cj_engine.specs.declared.machine.Machine.{Machine}
+use Rattle.cj_machine.specs.declared.machine.Machine.{Machine}
 use Rattle.cj_engine.specs.Stretches.{Starves}
-use Rattle.cj_engine.specs.Versions.{State, Codes}
+use Rattle.cj_machine.specs.Versions.{State, Codes}
 use Rattle.cj_engine.specs.Engines.{CanTurn}
 use Rattle.cj_ir.specs.declared.language.FunId.{FunId}
 use Rattle.cj_activations.specs.Changes.{position_of}

@@ -1,5 +1,5 @@
 use Rattle.std.proofs.Common.{◌≡◌, ◌-◌}
-use Rattle.cj_engine.specs.Machines.{state_of}
+use Rattle.cj_machine.specs.Machines.{state_of}
 use Rattle.cj_engine.specs.Engines.{HasRoom}
 use Rattle.cj_engine.specs.Stretches.{Quiet}
 use Rattle.cj_ir.specs.declared.language.Label.{Label}

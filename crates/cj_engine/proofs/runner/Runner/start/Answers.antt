@@ -1,13 +1,13 @@
 use Rattle.std.proofs.Common.{◌∙◌, refl, subst}
 use Rattle.cj_ir.specs.declared.language.Program.{Program}
-use Rattle.cj_engine.specs.Machines.{state_of}
+use Rattle.cj_machine.specs.Machines.{state_of}
 use Rattle.cj_engine.specs.Engines.{begun_with}
-use Rattle.cj_engine.specs.Marks.{start_marks}
-use Rattle.cj_engine.specs.CodeMaps.{SoundCodes}
+use Rattle.cj_machine.specs.Marks.{start_marks}
+use Rattle.cj_machine.specs.CodeMaps.{SoundCodes}
 use Rattle.std.proofs.lemmas.Option.{slice_get_within}
 use Rattle.cj_engine.proofs.Onwards.{entry_told, refused_so}
 use Rattle.cj_engine.proofs.Carrying.{start_made}
-use Rattle.cj_engine.proofs.Going.{start_is_run}
+use Rattle.cj_machine.proofs.Going.{start_is_run}
 use Rattle.cj_engine.proofs.runner.Runner.start.Goals as goal
 
 pub returns-clause-made : goal.returns-clause-made

@@ -1,9 +1,9 @@
 use Rattle.std.proofs.Common.{◌∙◌, refl, sym, ap, subst, ⊎_elim}
 use Rattle.std.specs.Prelude.{IsSome, slice_get, length}
 use Rattle.cj_ir.specs.declared.language.Program.{Program}
-use Rattle.cj_engine.specs.Machines.{state_of, progress_of}
-use Rattle.cj_engine.specs.CodeMaps.{SoundCodes}
-use Rattle.cj_engine.specs.Stepping.{IsReady}
+use Rattle.cj_machine.specs.Machines.{state_of, progress_of}
+use Rattle.cj_machine.specs.CodeMaps.{SoundCodes}
+use Rattle.cj_machine.specs.Stepping.{IsReady}
 use Rattle.cj_engine.specs.Stretches.{IsCarried}
 use Rattle.cj_engine.proofs.Gliding.{room_turns}
 use Rattle.cj_engine.proofs.Onwards.{quiet_stretch, stop_stretch, starved_halts, stopped_halts, refused_so}
@@ -40,7 +40,7 @@ carry-requires-clause-fits g c =
     let e = c.in_ok-stop-in-Version.ensures in
     let codes = g.W.Watch.codes c.args.watch.now in
     let stop = c.in_ok-stop-in-Version.stop in
-    let args = c.glide.new.self.scratch.values.items in
+    let args = c.glide.new.self.scratch in
     ⊎_elim
     (λ a. absurd (c.in_default.not-Goes a.0))
     (λ st. subst (λ (Q : Program). IsReady Q codes args c.in-Version.function stop.label (state_of c.glide.new.self.machine) stop.step) (sym (ap (λ r. r.now) e.checked)) st.ready)
@@ -74,7 +74,7 @@ returns-in_ok-turned-in_default-clause-made g c =
     let u = state_of c.glide.new.self.machine in
     let t = state_of c.carry.new.self.machine in
     let stop = c.in_ok-stop-in-Version.stop in
-    let args = c.glide.new.self.scratch.values.items in
+    let args = c.glide.new.self.scratch in
     let made = subst (λ (Q : Program). IsCarried Q args u stop.step later (slice_get now (length at)) (progress_of c.in_ok-turned-in_default.turned t)) (ap (λ r. r.now) e.checked) d.made in
     ⊎_elim
     (λ a. absurd (c.in_default.not-Goes a.0))
@@ -105,7 +105,7 @@ returns-in_err-turned-in_default-clause-halted g c =
     let looks = c.args.self.now.machine.looks in
     let u = state_of c.glide.new.self.machine in
     let stop = c.in_ok-stop-in-Version.stop in
-    let args = c.glide.new.self.scratch.values.items in
+    let args = c.glide.new.self.scratch in
     let first = g.W.Watch.trail c.args.watch.now in
     let last = g.W.Watch.trail c.carry.new.watch in
     ⊎_elim

@@ -4,13 +4,13 @@ use Rattle.cj_ir.specs.Program.{line_at}
 use Rattle.cj_ir.specs.declared.language.FunId.{FunId}
 use Rattle.cj_ir.specs.declared.language.Label.{Label}
 use Rattle.cj_ir.specs.declared.language.Program.{Program}
-use Rattle.cj_engine.specs.declared.machine.Machine.{Machine}
-use Rattle.cj_engine.specs.CodeMaps.{SoundCodes}
-use Rattle.cj_engine.specs.Machines.{state_of, progress_of}
-use Rattle.cj_engine.specs.Marks.{turn_marks}
-use Rattle.cj_engine.specs.Stepping.{TurnTakesMemory}
+use Rattle.cj_machine.specs.declared.machine.Machine.{Machine}
+use Rattle.cj_machine.specs.CodeMaps.{SoundCodes}
+use Rattle.cj_machine.specs.Machines.{state_of, progress_of}
+use Rattle.cj_machine.specs.Marks.{turn_marks}
+use Rattle.cj_machine.specs.Stepping.{TurnTakesMemory}
 use Rattle.cj_engine.specs.Watching.{TellsAtMost}
-use Rattle.cj_engine.specs.Versions.{State, Codes, version_turn}
+use Rattle.cj_machine.specs.Versions.{State, Codes, version_turn}
 use Rattle.cj_engine.specs.Engines.{CanTurn}
 use Rattle.cj_engine.specs.Stretches.{Onward, Halted}
 use Rattle.cj_engine.proofs.Gliding.{some_turn}

@@ -3,7 +3,7 @@ use Rattle.cj_base.specs.declared.machine.Turned.TheVariants.{Running}
 use Rattle.cj_ir.specs.declared.language.Label.{Label}
 use Rattle.cj_activations.specs.Changes.{position_of}
 use Rattle.cj_activations.specs.declared.windows.Position.TheVariants.{Base}
-use Rattle.cj_engine.specs.Machines.{state_of}
+use Rattle.cj_machine.specs.Machines.{state_of}
 use Rattle.cj_engine.specs.Watching.{Gains, Keeps}
 use Rattle.cj_engine.specs.Stretches.{Onward}
 use Rattle.cj_engine.proofs.runner.Runner.stretch_base.Given as goal

@@ -2,7 +2,8 @@ use Rattle.std.proofs.Common.{◌≡◌, ◌∙◌, ◌+◌, ◌-◌, ◌≤◌,
 use Rattle.cj_ir.specs.declared.language.Program.{Program}
 use Rattle.cj_base.specs.declared.machine.End.{End}
 use Rattle.cj_base.specs.Run.{begun}
-use Rattle.cj_engine.specs.Engines.{IsRun, HasRoom}
+use Rattle.cj_engine.specs.Engines.{HasRoom}
+use Rattle.cj_machine.specs.CallRuns.{IsRun}
 use Rattle.cj_world.specs.Worlds.{codes_in}
 use Rattle.cj_world.specs.Caches.{made_in}
 use Rattle.cj_world.specs.Running.{run_of, progress_by, IsAt}

@@ -1,10 +1,10 @@
 use Rattle.std.proofs.Common.{◌≡◌, subst}
 use Rattle.std.specs.Prelude.{slice_get}
 use Rattle.cj_base.specs.Run.{begun}
-use Rattle.cj_engine.specs.Versions.{Codes, Continues}
-use Rattle.cj_engine.specs.VersionRuns.{version_start}
-use Rattle.cj_engine.specs.Marks.{start_marks}
-use Rattle.cj_engine.specs.Engines.{IsRun}
+use Rattle.cj_machine.specs.Versions.{Codes, Continues}
+use Rattle.cj_machine.specs.VersionRuns.{version_start}
+use Rattle.cj_machine.specs.Marks.{start_marks}
+use Rattle.cj_machine.specs.CallRuns.{IsRun}
 use Rattle.cj_world.specs.Worlds.{looks_of}
 use Rattle.cj_world.specs.Running.{run_of, progress_by}
 use Rattle.cj_world.proofs.Steps.{gained_looks, begun_same, same_codes}

@@ -2,7 +2,7 @@ use Rattle.std.proofs.Common.{◌≡◌, ◌∙◌, sym, ap, subst, Some}
 use Rattle.cj_base.specs.declared.machine.End.{End}
 use Rattle.cj_base.specs.Run.{begun}
 use Rattle.cj_calls.specs.declared.report.Report.{Report}
-use Rattle.cj_engine.specs.VersionRuns.{report_of, version_report}
+use Rattle.cj_machine.specs.VersionRuns.{report_of, version_report}
 use Rattle.cj_world.specs.Running.{run_of}
 use Rattle.cj_world.proofs.Reporting.{read_at, told_whole}
 use Rattle.cj_world.proofs.runs.Run.report.Goals as goal

@@ -1,5 +1,0 @@
-use Rattle.cj_engine.proofs.Going.{run_grows}
-use Rattle.cj_engine.proofs.laws.later_codes_keep_a_run.Goals as goal
-
-pub returns : goal.returns
-returns c = run_grows

@@ -1,9 +1,0 @@
-use Rattle.std.proofs.Common.{refl}
-use Rattle.cj_engine.specs.Machines.{state_of}
-use Rattle.cj_engine.specs.Versions.{passed}
-use Rattle.cj_engine.proofs.Landing.{passes}
-use Rattle.cj_engine.proofs.machine.Machine.pass.Goals as goal
-
-pub returns-clause-made : goal.returns-clause-made
-unfolding state_of passed
-returns-clause-made c = λ v top. rw (c.go_to.ensures, passes _ _ v top) refl

@@ -1,0 +1,17 @@
+pub mod Counting
+pub mod Effects
+pub mod Backs
+pub mod Entries
+pub mod Turns
+pub mod Arms
+pub mod Growing
+pub mod Runs
+pub mod Memories
+pub mod RunMarks
+pub mod Reporting
+pub mod Going
+pub mod PlainTrails
+pub mod Worked
+pub mod Landing
+pub mod Arriving
+pub mod Assigning

@@ -1,0 +1,9 @@
+pub mod Versions
+pub mod VersionRuns
+pub mod Marks
+pub mod CodeMaps
+pub mod Stands
+pub mod Memories
+pub mod Machines
+pub mod Stepping
+pub mod CallRuns
