@@ -303,9 +303,15 @@ viewed P s looks running = record { program = P; state = s; looks = looks; runni
 
 -- ---- one turn
 
-pub onward_one : (P : Program) (went : List Mark → Type 0) (codes : Codes) (trail : List Look) (s : State) (answer : Turned) (t : State) → Onward P went codes trail 1 s answer t → (version_turn P codes (slice_get trail s.entries) s ≡ progress_of answer t) × went (turn_marks P codes s)
+-- one turn was made, and its marks were told
+pub record OneTurn (P : Program) (went : List Mark → Type 0) (codes : Codes) (trail : List Look) (s : State) (answer : Turned) (t : State) : Type 0 where
+  pub made : version_turn P codes (slice_get trail s.entries) s ≡ progress_of answer t
+  pub told : went (turn_marks P codes s)
+
+pub onward_one : (P : Program) (went : List Mark → Type 0) (codes : Codes) (trail : List Look) (s : State) (answer : Turned) (t : State) →
+    Onward P went codes trail 1 s answer t → OneTurn P went codes trail s answer t
 unfolding turns_from marks_from one_turn_more next_marks
-onward_one P went codes trail s answer t o = (o.made, o.told)
+onward_one P went codes trail s answer t o = record { made = o.made; told = o.told }
 
 none_of : {A : Type 0} (xs : List A) → length xs ≡ 0 → xs ≡ []
 none_of [] none = refl

@@ -13,9 +13,9 @@ use crate::played::Played;
 use crate::runs::Run;
 use crate::world::World;
 use cj_calls::Reports;
-use cj_machine::laws::reports_have_the_headline;
 use cj_events::Events;
 use cj_ir::{Checked, NoMemory};
+use cj_machine::laws::reports_have_the_headline;
 use std::alloc::Global;
 
 /// The words of the table of versions.

@@ -16,8 +16,8 @@ use crate::cache::Cache;
 use cj_base::{End, Turned};
 use cj_calls::Report;
 use cj_engine::Engine;
-use cj_machine::laws::limit_is_the_report;
 use cj_ir::{Checked, NoMemory, ScriptCall};
+use cj_machine::laws::limit_is_the_report;
 use std::alloc::Global;
 
 /// A run that has begun, with its end if it has ended.
