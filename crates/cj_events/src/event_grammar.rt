@@ -2,7 +2,7 @@
 
 ghost use Rattle.std.specs.Prelude.{◌≡◌, OnOk, IfErr};
 ghost use Rattle.cj_tokens.specs.Ends.{HasOneEnd};
-ghost use Rattle.cj_tokens.specs.Left.{left};
+ghost use Rattle.cj_tokens.specs.Left.{left, source};
 ghost use Rattle.cj_tokens.specs.Passing.{ended};
 ghost use Rattle.cj_grammar.specs.Grammar.{IsSentence};
 ghost use Rattle.cj_grammar.specs.OneAhead.{eat, starts};
@@ -15,7 +15,8 @@ use cj_tokens::{Refused, Terminal, Tokens, Unfit};
 
 #[tactic(auto, unfolding(crate::specs::Rules::begin_event))]
 fn pass_begin(tokens: &mut Tokens<'_>) -> Result<(), Unfit>
-    ensures { eat begin_event (left tokens.old) ≡ ended result (left tokens.new) }
+    ensures passes { eat begin_event (left tokens.old) ≡ ended result (left tokens.new) }
+    ensures source { source tokens.new ≡ source tokens.old }
 {
     tokens.expect(Terminal::Begin)?;
     pass_begun(tokens)
@@ -23,7 +24,8 @@ fn pass_begin(tokens: &mut Tokens<'_>) -> Result<(), Unfit>
 
 #[tactic(auto, unfolding(crate::specs::Rules::step_event))]
 fn pass_step(tokens: &mut Tokens<'_>) -> Result<(), Unfit>
-    ensures { eat step_event (left tokens.old) ≡ ended result (left tokens.new) }
+    ensures passes { eat step_event (left tokens.old) ≡ ended result (left tokens.new) }
+    ensures source { source tokens.new ≡ source tokens.old }
 {
     tokens.expect(Terminal::Step)?;
     tokens.expect(Terminal::Number)?;
@@ -32,7 +34,8 @@ fn pass_step(tokens: &mut Tokens<'_>) -> Result<(), Unfit>
 
 #[tactic(auto, unfolding(crate::specs::Rules::compile_event))]
 fn pass_compile(tokens: &mut Tokens<'_>) -> Result<(), Unfit>
-    ensures { eat compile_event (left tokens.old) ≡ ended result (left tokens.new) }
+    ensures passes { eat compile_event (left tokens.old) ≡ ended result (left tokens.new) }
+    ensures source { source tokens.new ≡ source tokens.old }
 {
     tokens.expect(Terminal::Compile)?;
     tokens.expect(Terminal::Name)?;
@@ -53,7 +56,8 @@ fn begins_event(tokens: &Tokens<'_>) -> bool
 
 #[tactic(auto, using(cj_grammar::proofs::Ahead::ahead), unfolding(crate::specs::Rules::event, crate::specs::Rules::begin_event, crate::specs::Rules::step_event, crate::specs::Rules::compile_event))]
 fn pass_event(tokens: &mut Tokens<'_>) -> Result<(), Unfit>
-    ensures { eat event (left tokens.old) ≡ ended result (left tokens.new) }
+    ensures passes { eat event (left tokens.old) ≡ ended result (left tokens.new) }
+    ensures source { source tokens.new ≡ source tokens.old }
 {
     match tokens.peek() {
         Terminal::Begin => pass_begin(tokens),
@@ -64,7 +68,8 @@ fn pass_event(tokens: &mut Tokens<'_>) -> Result<(), Unfit>
 
 #[tactic(auto, using(crate::proofs::GrammarTurns::events_go, crate::proofs::GrammarTurns::events_stop, crate::proofs::GrammarTurns::event_shorter))]
 fn pass_events(tokens: &mut Tokens<'_>) -> Result<(), Unfit>
-    ensures { eat events (left tokens.old) ≡ ended result (left tokens.new) }
+    ensures passes { eat events (left tokens.old) ≡ ended result (left tokens.new) }
+    ensures source { source tokens.new ≡ source tokens.old }
 {
     'more: while begins_event(tokens) {
         pass_event(tokens)?;
@@ -74,7 +79,8 @@ fn pass_events(tokens: &mut Tokens<'_>) -> Result<(), Unfit>
 
 #[tactic(auto, unfolding(crate::specs::Rules::history))]
 fn pass_history(tokens: &mut Tokens<'_>) -> Result<(), Unfit>
-    ensures { eat history (left tokens.old) ≡ ended result (left tokens.new) }
+    ensures passes { eat history (left tokens.old) ≡ ended result (left tokens.new) }
+    ensures source { source tokens.new ≡ source tokens.old }
 {
     tokens.expect(Terminal::Events)?;
     pass_events(tokens)
@@ -82,7 +88,8 @@ fn pass_history(tokens: &mut Tokens<'_>) -> Result<(), Unfit>
 
 #[tactic(auto, unfolding(crate::specs::Rules::replay))]
 fn pass_replay(tokens: &mut Tokens<'_>) -> Result<(), Unfit>
-    ensures { eat replay (left tokens.old) ≡ ended result (left tokens.new) }
+    ensures passes { eat replay (left tokens.old) ≡ ended result (left tokens.new) }
+    ensures source { source tokens.new ≡ source tokens.old }
 {
     pass_funs(tokens)?;
     pass_history(tokens)?;

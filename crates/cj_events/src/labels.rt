@@ -1,7 +1,7 @@
 //! The labels of a list.
 
-ghost use Rattle.std.specs.Prelude.{[]};
-ghost use Rattle.cj_tokens.specs.Left.{left};
+ghost use Rattle.std.specs.Prelude.{◌≡◌, []};
+ghost use Rattle.cj_tokens.specs.Left.{left, source};
 ghost use Rattle.cj_grammar.specs.Readers.{Gives};
 ghost use Rattle.cj_events.specs.Reading.{label_at, labels_at};
 
@@ -13,7 +13,8 @@ use std::alloc::Global;
 /// A label behind so many others.
 #[tactic(auto, unfolding(crate::specs::Reading::label_at))]
 fn read_label(tokens: &mut Tokens<'_>, earlier: usize) -> Result<Label, ParseError>
-    ensures { Gives result (left tokens.new) (label_at earlier (left tokens.old)) }
+    ensures gives { Gives result (left tokens.new) (label_at earlier (left tokens.old)) }
+    ensures source { source tokens.new ≡ source tokens.old }
 {
     let token = tokens.take();
     let label = listed_label(earlier, token)?;
@@ -23,7 +24,8 @@ fn read_label(tokens: &mut Tokens<'_>, earlier: usize) -> Result<Label, ParseErr
 /// The labels that stand next.
 #[tactic(auto, using(crate::proofs::LabelTurns::labels_turn, crate::proofs::LabelTurns::labels_fail, crate::proofs::LabelTurns::labels_stop, crate::proofs::LabelTurns::label_shorter))]
 pub fn read_labels(alloc: Global, tokens: &mut Tokens<'_>) -> Result<Labels, ParseError>
-    ensures { Gives result (left tokens.new) (labels_at [] (left tokens.old)) }
+    ensures gives { Gives result (left tokens.new) (labels_at [] (left tokens.old)) }
+    ensures source { source tokens.new ≡ source tokens.old }
 {
     let mut labels = Labels::new(alloc);
     'labels: while tokens.is_at(Terminal::Number) {

@@ -1,7 +1,7 @@
 //! Passing over the passes of a `compile`.
 
 ghost use Rattle.std.specs.Prelude.{◌≡◌};
-ghost use Rattle.cj_tokens.specs.Left.{left};
+ghost use Rattle.cj_tokens.specs.Left.{left, source};
 ghost use Rattle.cj_tokens.specs.Passing.{ended};
 ghost use Rattle.cj_tokens.specs.declared.terminal.Terminal.TheVariants.{Comma};
 ghost use Rattle.cj_grammar.specs.OneAhead.{eat, starts};
@@ -12,7 +12,8 @@ use cj_tokens::{Terminal, Tokens, Unfit};
 
 #[tactic(auto, using(cj_grammar::proofs::Turns::numbers_go, cj_grammar::proofs::Turns::numbers_stop, cj_grammar::proofs::Turns::number_shorter), unfolding(crate::specs::Rules::labels))]
 fn pass_labels(tokens: &mut Tokens<'_>) -> Result<(), Unfit>
-    ensures { eat labels (left tokens.old) ≡ ended result (left tokens.new) }
+    ensures passes { eat labels (left tokens.old) ≡ ended result (left tokens.new) }
+    ensures source { source tokens.new ≡ source tokens.old }
 {
     tokens.expect(Terminal::Number)?;
     'more: while tokens.is_at(Terminal::Number) {
@@ -23,7 +24,8 @@ fn pass_labels(tokens: &mut Tokens<'_>) -> Result<(), Unfit>
 
 #[tactic(auto, unfolding(crate::specs::Rules::equation))]
 fn pass_equation(tokens: &mut Tokens<'_>) -> Result<(), Unfit>
-    ensures { eat equation (left tokens.old) ≡ ended result (left tokens.new) }
+    ensures passes { eat equation (left tokens.old) ≡ ended result (left tokens.new) }
+    ensures source { source tokens.new ≡ source tokens.old }
 {
     tokens.expect(Terminal::Number)?;
     tokens.expect(Terminal::Equals)?;
@@ -32,7 +34,8 @@ fn pass_equation(tokens: &mut Tokens<'_>) -> Result<(), Unfit>
 
 #[tactic(auto, using(cj_grammar::proofs::Ahead::ahead), unfolding(crate::specs::Rules::guard, crate::specs::Rules::equation))]
 fn pass_guard(tokens: &mut Tokens<'_>) -> Result<(), Unfit>
-    ensures { eat guard (left tokens.old) ≡ ended result (left tokens.new) }
+    ensures passes { eat guard (left tokens.old) ≡ ended result (left tokens.new) }
+    ensures source { source tokens.new ≡ source tokens.old }
 {
     match tokens.peek() {
         Terminal::Number => pass_equation(tokens),
@@ -41,7 +44,8 @@ fn pass_guard(tokens: &mut Tokens<'_>) -> Result<(), Unfit>
 }
 
 fn pass_next_guard(tokens: &mut Tokens<'_>) -> Result<(), Unfit>
-    ensures { eat (one Comma ▸ guard) (left tokens.old) ≡ ended result (left tokens.new) }
+    ensures passes { eat (one Comma ▸ guard) (left tokens.old) ≡ ended result (left tokens.new) }
+    ensures source { source tokens.new ≡ source tokens.old }
 {
     tokens.expect(Terminal::Comma)?;
     pass_guard(tokens)
@@ -49,7 +53,8 @@ fn pass_next_guard(tokens: &mut Tokens<'_>) -> Result<(), Unfit>
 
 #[tactic(auto, using(crate::proofs::GrammarTurns::more_guards_go, crate::proofs::GrammarTurns::more_guards_stop, crate::proofs::GrammarTurns::next_guard_shorter), unfolding(crate::specs::Rules::guards))]
 fn pass_guards(tokens: &mut Tokens<'_>) -> Result<(), Unfit>
-    ensures { eat guards (left tokens.old) ≡ ended result (left tokens.new) }
+    ensures passes { eat guards (left tokens.old) ≡ ended result (left tokens.new) }
+    ensures source { source tokens.new ≡ source tokens.old }
 {
     tokens.expect(Terminal::When)?;
     pass_guard(tokens)?;
@@ -61,7 +66,8 @@ fn pass_guards(tokens: &mut Tokens<'_>) -> Result<(), Unfit>
 
 #[tactic(auto, unfolding(crate::specs::Rules::anchors_pass))]
 fn pass_anchors(tokens: &mut Tokens<'_>) -> Result<(), Unfit>
-    ensures { eat anchors_pass (left tokens.old) ≡ ended result (left tokens.new) }
+    ensures passes { eat anchors_pass (left tokens.old) ≡ ended result (left tokens.new) }
+    ensures source { source tokens.new ≡ source tokens.old }
 {
     tokens.expect(Terminal::Anchors)?;
     pass_labels(tokens)
@@ -69,7 +75,8 @@ fn pass_anchors(tokens: &mut Tokens<'_>) -> Result<(), Unfit>
 
 #[tactic(auto, unfolding(crate::specs::Rules::assume_pass))]
 fn pass_assume(tokens: &mut Tokens<'_>) -> Result<(), Unfit>
-    ensures { eat assume_pass (left tokens.old) ≡ ended result (left tokens.new) }
+    ensures passes { eat assume_pass (left tokens.old) ≡ ended result (left tokens.new) }
+    ensures source { source tokens.new ≡ source tokens.old }
 {
     tokens.expect(Terminal::Assume)?;
     tokens.expect(Terminal::Number)?;
@@ -78,7 +85,8 @@ fn pass_assume(tokens: &mut Tokens<'_>) -> Result<(), Unfit>
 
 #[tactic(auto, unfolding(crate::specs::Rules::delay_pass))]
 fn pass_delay(tokens: &mut Tokens<'_>) -> Result<(), Unfit>
-    ensures { eat delay_pass (left tokens.old) ≡ ended result (left tokens.new) }
+    ensures passes { eat delay_pass (left tokens.old) ≡ ended result (left tokens.new) }
+    ensures source { source tokens.new ≡ source tokens.old }
 {
     tokens.expect(Terminal::Delay)?;
     pass_labels(tokens)?;
@@ -87,7 +95,8 @@ fn pass_delay(tokens: &mut Tokens<'_>) -> Result<(), Unfit>
 
 #[tactic(auto, unfolding(crate::specs::Rules::inline_pass))]
 fn pass_inline(tokens: &mut Tokens<'_>) -> Result<(), Unfit>
-    ensures { eat inline_pass (left tokens.old) ≡ ended result (left tokens.new) }
+    ensures passes { eat inline_pass (left tokens.old) ≡ ended result (left tokens.new) }
+    ensures source { source tokens.new ≡ source tokens.old }
 {
     tokens.expect(Terminal::Inline)?;
     tokens.expect(Terminal::Number)
@@ -105,7 +114,8 @@ fn begins_pass(tokens: &Tokens<'_>) -> bool
 
 #[tactic(auto, using(cj_grammar::proofs::Ahead::ahead), unfolding(crate::specs::Rules::any_pass, crate::specs::Rules::anchors_pass, crate::specs::Rules::assume_pass, crate::specs::Rules::delay_pass, crate::specs::Rules::const_pass, crate::specs::Rules::inline_pass))]
 fn pass_any(tokens: &mut Tokens<'_>) -> Result<(), Unfit>
-    ensures { eat any_pass (left tokens.old) ≡ ended result (left tokens.new) }
+    ensures passes { eat any_pass (left tokens.old) ≡ ended result (left tokens.new) }
+    ensures source { source tokens.new ≡ source tokens.old }
 {
     match tokens.peek() {
         Terminal::Anchors => pass_anchors(tokens),
@@ -118,7 +128,8 @@ fn pass_any(tokens: &mut Tokens<'_>) -> Result<(), Unfit>
 
 #[tactic(auto, using(crate::proofs::GrammarTurns::passes_go, crate::proofs::GrammarTurns::passes_stop, crate::proofs::GrammarTurns::pass_shorter))]
 pub fn pass_passes(tokens: &mut Tokens<'_>) -> Result<(), Unfit>
-    ensures { eat passes (left tokens.old) ≡ ended result (left tokens.new) }
+    ensures passes { eat passes (left tokens.old) ≡ ended result (left tokens.new) }
+    ensures source { source tokens.new ≡ source tokens.old }
 {
     'more: while begins_pass(tokens) {
         pass_any(tokens)?;

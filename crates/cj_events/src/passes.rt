@@ -1,7 +1,7 @@
 //! The passes of a `compile`.
 
 ghost use Rattle.std.specs.Prelude.{◌≡◌, []};
-ghost use Rattle.cj_tokens.specs.Left.{left};
+ghost use Rattle.cj_tokens.specs.Left.{left, source};
 ghost use Rattle.cj_grammar.specs.Readers.{Gives};
 ghost use Rattle.cj_events.specs.Reading.{is_pass, anchors_at, assume_at, delay_at, inline_at, any_pass_at, pass_at, passes_at};
 
@@ -17,7 +17,8 @@ use std::alloc::Global;
 /// The labels behind `anchors`.
 #[tactic(auto, unfolding(crate::specs::Reading::anchors_at))]
 fn read_anchors(alloc: Global, tokens: &mut Tokens<'_>) -> Result<Pass, ParseError>
-    ensures { Gives result (left tokens.new) (anchors_at (left tokens.old)) }
+    ensures gives { Gives result (left tokens.new) (anchors_at (left tokens.old)) }
+    ensures source { source tokens.new ≡ source tokens.old }
 {
     let places = read_labels(alloc, tokens)?;
     Ok(Pass::Anchors { places })
@@ -26,7 +27,8 @@ fn read_anchors(alloc: Global, tokens: &mut Tokens<'_>) -> Result<Pass, ParseErr
 /// The anchor and the guards behind `assume`.
 #[tactic(auto, unfolding(crate::specs::Reading::assume_at))]
 fn read_assume(alloc: Global, tokens: &mut Tokens<'_>) -> Result<Pass, ParseError>
-    ensures { Gives result (left tokens.new) (assume_at (left tokens.old)) }
+    ensures gives { Gives result (left tokens.new) (assume_at (left tokens.old)) }
+    ensures source { source tokens.new ≡ source tokens.old }
 {
     let token = tokens.take();
     let anchor = draft_label(token)?;
@@ -37,7 +39,8 @@ fn read_assume(alloc: Global, tokens: &mut Tokens<'_>) -> Result<Pass, ParseErro
 /// The path and the guards behind `delay`.
 #[tactic(auto, unfolding(crate::specs::Reading::delay_at))]
 fn read_delay(alloc: Global, tokens: &mut Tokens<'_>) -> Result<Pass, ParseError>
-    ensures { Gives result (left tokens.new) (delay_at (left tokens.old)) }
+    ensures gives { Gives result (left tokens.new) (delay_at (left tokens.old)) }
+    ensures source { source tokens.new ≡ source tokens.old }
 {
     let path = read_labels(alloc, tokens)?;
     let guards = read_guards(alloc, tokens)?;
@@ -47,7 +50,8 @@ fn read_delay(alloc: Global, tokens: &mut Tokens<'_>) -> Result<Pass, ParseError
 /// The label behind `inline`.
 #[tactic(auto, unfolding(crate::specs::Reading::inline_at))]
 fn read_inline(tokens: &mut Tokens<'_>) -> Result<Pass, ParseError>
-    ensures { Gives result (left tokens.new) (inline_at (left tokens.old)) }
+    ensures gives { Gives result (left tokens.new) (inline_at (left tokens.old)) }
+    ensures source { source tokens.new ≡ source tokens.old }
 {
     let token = tokens.take();
     let call = draft_label(token)?;
@@ -57,7 +61,8 @@ fn read_inline(tokens: &mut Tokens<'_>) -> Result<Pass, ParseError>
 /// A pass.
 #[tactic(auto, unfolding(crate::specs::Reading::any_pass_at))]
 fn read_any(alloc: Global, tokens: &mut Tokens<'_>) -> Result<Pass, ParseError>
-    ensures { Gives result (left tokens.new) (any_pass_at (left tokens.old)) }
+    ensures gives { Gives result (left tokens.new) (any_pass_at (left tokens.old)) }
+    ensures source { source tokens.new ≡ source tokens.old }
 {
     let word = tokens.take();
     match word.terminal {
@@ -72,7 +77,8 @@ fn read_any(alloc: Global, tokens: &mut Tokens<'_>) -> Result<Pass, ParseError>
 /// A pass behind so many others.
 #[tactic(auto, unfolding(crate::specs::Reading::pass_at))]
 fn read_pass(alloc: Global, tokens: &mut Tokens<'_>, earlier: usize) -> Result<Pass, ParseError>
-    ensures { Gives result (left tokens.new) (pass_at earlier (left tokens.old)) }
+    ensures gives { Gives result (left tokens.new) (pass_at earlier (left tokens.old)) }
+    ensures source { source tokens.new ≡ source tokens.old }
 {
     if earlier >= MAX_PASSES {
         return Err(refused(tokens.take(), Kind::TooMany));
@@ -93,7 +99,8 @@ fn is_pass(tokens: &Tokens<'_>) -> bool
 /// The passes that stand next.
 #[tactic(auto, using(crate::proofs::PassTurns::passes_turn, crate::proofs::PassTurns::passes_fail, crate::proofs::PassTurns::passes_stop, crate::proofs::PassTurns::pass_shorter))]
 pub fn read_passes(alloc: Global, tokens: &mut Tokens<'_>) -> Result<Passes, ParseError>
-    ensures { Gives result (left tokens.new) (passes_at [] (left tokens.old)) }
+    ensures gives { Gives result (left tokens.new) (passes_at [] (left tokens.old)) }
+    ensures source { source tokens.new ≡ source tokens.old }
 {
     let mut passes = Passes::new(alloc);
     'passes: while is_pass(tokens) {

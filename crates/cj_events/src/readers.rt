@@ -1,7 +1,7 @@
 //! The events of a replay.
 
 ghost use Rattle.std.specs.Prelude.{◌≡◌, ◌≤◌, [], length, IfOk};
-ghost use Rattle.cj_tokens.specs.Left.{left};
+ghost use Rattle.cj_tokens.specs.Left.{left, source};
 ghost use Rattle.cj_grammar.specs.Readers.{Gives};
 ghost use Rattle.cj_events.specs.Reading.{begin_at, step_at, compile_at, event_at, is_event, events_at};
 ghost use Rattle.cj_events.specs.Tallies.{IsWithin};
@@ -30,6 +30,7 @@ fn read_begin(
     requires few { length functions.now ≤ MAX_FUNCTIONS }
     requires within { IsWithin tally }
     ensures gives { Gives result (left tokens.new) (begin_at functions.now tally (left tokens.old)) }
+    ensures source { source tokens.new ≡ source tokens.old }
     ensures within { IfOk result (λ event. IsWithin (counted tally event)) }
 {
     let word = tokens.take();
@@ -45,6 +46,7 @@ fn read_begin(
 fn read_step(tokens: &mut Tokens<'_>, tally: Tally) -> Result<Event, ParseError>
     requires within { IsWithin tally }
     ensures gives { Gives result (left tokens.new) (step_at tally (left tokens.old)) }
+    ensures source { source tokens.new ≡ source tokens.old }
     ensures within { IfOk result (λ event. IsWithin (counted tally event)) }
 {
     let _word = tokens.take();
@@ -66,6 +68,7 @@ fn read_compile(
     requires few { length functions.now ≤ MAX_FUNCTIONS }
     requires within { IsWithin tally }
     ensures gives { Gives result (left tokens.new) (compile_at functions.now tally (left tokens.old)) }
+    ensures source { source tokens.new ≡ source tokens.old }
     ensures within { IfOk result (λ event. IsWithin (counted tally event)) }
 {
     let word = tokens.take();
@@ -91,6 +94,7 @@ fn read_event(
     requires few { length functions.now ≤ MAX_FUNCTIONS }
     requires within { IsWithin tally }
     ensures gives { Gives result (left tokens.new) (event_at functions.now tally (left tokens.old)) }
+    ensures source { source tokens.new ≡ source tokens.old }
     ensures within { IfOk result (λ event. IsWithin (counted tally event)) }
 {
     match tokens.peek() {
@@ -115,7 +119,8 @@ pub fn read_events(
     functions: &[Function],
 ) -> Result<Events, ParseError>
     requires { length functions.now ≤ MAX_FUNCTIONS }
-    ensures { Gives result (left tokens.new) (events_at functions.now [] (left tokens.old)) }
+    ensures gives { Gives result (left tokens.new) (events_at functions.now [] (left tokens.old)) }
+    ensures source { source tokens.new ≡ source tokens.old }
 {
     let mut events = Events::new(alloc);
     let mut tally = nothing();

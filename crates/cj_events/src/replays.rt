@@ -1,7 +1,7 @@
 //! Replays from their bytes.
 
 ghost use Rattle.std.specs.Prelude.{◌≡◌, ◌≤◌, ◌∷◌, ◌++◌, Ok, Err, true, IfOk, IfErr, List, length};
-ghost use Rattle.cj_tokens.specs.Left.{left};
+ghost use Rattle.cj_tokens.specs.Left.{left, source};
 ghost use Rattle.cj_tokens.specs.Lexemes.{Lexeme, is_terminal};
 ghost use Rattle.cj_tokens.specs.declared.terminal.Terminal.TheVariants.{End};
 ghost use Rattle.cj_grammar.specs.Grammar.{Tree, leaves, IsSentence};
@@ -31,7 +31,8 @@ fn read_listed(
     functions: &[Function],
 ) -> Result<Events, ParseError>
     requires { length functions.now ≤ MAX_FUNCTIONS }
-    ensures { Gives result (left tokens.new) (history_at functions.now (left tokens.old)) }
+    ensures gives { Gives result (left tokens.new) (history_at functions.now (left tokens.old)) }
+    ensures source { source tokens.new ≡ source tokens.old }
 {
     let _word = tokens.take();
     read_events(alloc, tokens, functions)
@@ -43,8 +44,9 @@ fn read_history(
     tokens: &mut Tokens<'_>,
     checked: &Checked,
 ) -> Result<Events, ParseError>
-    ensures { (t : Tree history) (last : Lexeme) (rest : List Lexeme) → left tokens.old ≡ leaves history t ++ last ∷ rest → is_terminal End last ≡ true →
+    ensures meaning { (t : Tree history) (last : Lexeme) (rest : List Lexeme) → left tokens.old ≡ leaves history t ++ last ∷ rest → is_terminal End last ≡ true →
         Gives result (left tokens.new) (reads (history_offences checked.now t) (history_of checked.now t) (last ∷ rest)) }
+    ensures source { source tokens.new ≡ source tokens.old }
 {
     let functions = checked.program().functions.items();
     read_listed(alloc, tokens, functions)
@@ -55,6 +57,7 @@ fn read_history(
 fn read_replay(alloc: Global, tokens: &mut Tokens<'_>) -> Result<(Checked, Events), ParseError>
     requires { IsSentence replay (left tokens.old) }
     ensures read { (tree : Tree replay) → leaves replay tree ≡ left tokens.old → Agrees result (replay_offences tree) (replay_of tree) }
+    ensures source { source tokens.new ≡ source tokens.old }
     ensures fits { IfOk result (λ replay. FitsEvents replay.0 replay.1) }
 {
     let checked = match read_program(alloc, tokens) {

@@ -1,9 +1,7 @@
 -- The alternatives of a rule that has many, by name.
 use Rattle.std.proofs.Common.{inl, inr}
-use Rattle.cj_grammar.specs.Grammar.{Tree, Leaf}
+use Rattle.cj_grammar.specs.Grammar.{Tree}
 use Rattle.cj_grammar.specs.Rules.{binary, nop_instr, op_instr, cond_instr, call_instr, return_instr, print_instr, load_instr, store_instr, fail_instr, instr}
-use Rattle.cj_tokens.specs.Lexemes.{Is}
-use Rattle.cj_tokens.specs.declared.terminal.Terminal.TheVariants as terminal
 
 -- what is said of an instruction, by its kind
 pub record OfInstr (X : Type 0) : Type 0 where

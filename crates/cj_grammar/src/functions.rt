@@ -1,7 +1,7 @@
 //! Passing over functions.
 
 ghost use Rattle.std.specs.Prelude.{◌≡◌};
-ghost use Rattle.cj_tokens.specs.Left.{left};
+ghost use Rattle.cj_tokens.specs.Left.{left, source};
 ghost use Rattle.cj_tokens.specs.Passing.{ended};
 ghost use Rattle.cj_tokens.specs.declared.terminal.Terminal.TheVariants.{Semicolon};
 ghost use Rattle.cj_grammar.specs.Grammar.{opt};
@@ -14,7 +14,8 @@ use cj_tokens::{Terminal, Tokens, Unfit};
 
 #[tactic(auto, using(crate::proofs::Ahead::ahead), unfolding(crate::specs::Rules::names))]
 fn pass_parameters(tokens: &mut Tokens<'_>) -> Result<(), Unfit>
-    ensures { eat (opt names) (left tokens.old) ≡ ended result (left tokens.new) }
+    ensures passes { eat (opt names) (left tokens.old) ≡ ended result (left tokens.new) }
+    ensures source { source tokens.new ≡ source tokens.old }
 {
     if tokens.is_at(Terminal::Name) {
         pass_names(tokens)?;
@@ -24,7 +25,8 @@ fn pass_parameters(tokens: &mut Tokens<'_>) -> Result<(), Unfit>
 
 #[tactic(auto, using(crate::proofs::Ahead::ahead))]
 fn pass_locals(tokens: &mut Tokens<'_>) -> Result<(), Unfit>
-    ensures { eat (opt (one Semicolon ▸ names)) (left tokens.old) ≡ ended result (left tokens.new) }
+    ensures passes { eat (opt (one Semicolon ▸ names)) (left tokens.old) ≡ ended result (left tokens.new) }
+    ensures source { source tokens.new ≡ source tokens.old }
 {
     if tokens.is_at(Terminal::Semicolon) {
         tokens.expect(Terminal::Semicolon)?;
@@ -35,7 +37,8 @@ fn pass_locals(tokens: &mut Tokens<'_>) -> Result<(), Unfit>
 
 #[tactic(auto, unfolding(crate::specs::Rules::head))]
 fn pass_head(tokens: &mut Tokens<'_>) -> Result<(), Unfit>
-    ensures { eat head (left tokens.old) ≡ ended result (left tokens.new) }
+    ensures passes { eat head (left tokens.old) ≡ ended result (left tokens.new) }
+    ensures source { source tokens.new ≡ source tokens.old }
 {
     tokens.expect(Terminal::Fun)?;
     tokens.expect(Terminal::Name)?;
@@ -47,7 +50,8 @@ fn pass_head(tokens: &mut Tokens<'_>) -> Result<(), Unfit>
 
 #[tactic(auto, unfolding(crate::specs::Rules::fun))]
 fn pass_fun(tokens: &mut Tokens<'_>) -> Result<(), Unfit>
-    ensures { eat fun (left tokens.old) ≡ ended result (left tokens.new) }
+    ensures passes { eat fun (left tokens.old) ≡ ended result (left tokens.new) }
+    ensures source { source tokens.new ≡ source tokens.old }
 {
     pass_head(tokens)?;
     tokens.expect(Terminal::OpenBrace)?;
@@ -59,7 +63,8 @@ fn pass_fun(tokens: &mut Tokens<'_>) -> Result<(), Unfit>
 /// with those before it.
 #[tactic(auto, using(crate::proofs::Turns::more_funs_go, crate::proofs::Turns::more_funs_stop, crate::proofs::Turns::fun_shorter), unfolding(crate::specs::Rules::funs))]
 pub fn pass_funs(tokens: &mut Tokens<'_>) -> Result<(), Unfit>
-    ensures { eat funs (left tokens.old) ≡ ended result (left tokens.new) }
+    ensures passes { eat funs (left tokens.old) ≡ ended result (left tokens.new) }
+    ensures source { source tokens.new ≡ source tokens.old }
 {
     pass_fun(tokens)?;
     'more: while tokens.is_at(Terminal::Fun) {

@@ -1,7 +1,7 @@
 //! Passing over instructions and lines.
 
 ghost use Rattle.std.specs.Prelude.{◌≡◌};
-ghost use Rattle.cj_tokens.specs.Left.{left};
+ghost use Rattle.cj_tokens.specs.Left.{left, source};
 ghost use Rattle.cj_tokens.specs.Passing.{ended};
 ghost use Rattle.cj_grammar.specs.Grammar.{opt};
 ghost use Rattle.cj_grammar.specs.OneAhead.{eat, starts};
@@ -12,7 +12,8 @@ use cj_tokens::{Terminal, Tokens, Unfit};
 
 #[tactic(auto, unfolding(crate::specs::Rules::nop_instr))]
 fn pass_nop(tokens: &mut Tokens<'_>) -> Result<(), Unfit>
-    ensures { eat nop_instr (left tokens.old) ≡ ended result (left tokens.new) }
+    ensures passes { eat nop_instr (left tokens.old) ≡ ended result (left tokens.new) }
+    ensures source { source tokens.new ≡ source tokens.old }
 {
     tokens.expect(Terminal::Nop)?;
     pass_target(tokens)
@@ -20,7 +21,8 @@ fn pass_nop(tokens: &mut Tokens<'_>) -> Result<(), Unfit>
 
 #[tactic(auto, unfolding(crate::specs::Rules::op_instr))]
 fn pass_op(tokens: &mut Tokens<'_>) -> Result<(), Unfit>
-    ensures { eat op_instr (left tokens.old) ≡ ended result (left tokens.new) }
+    ensures passes { eat op_instr (left tokens.old) ≡ ended result (left tokens.new) }
+    ensures source { source tokens.new ≡ source tokens.old }
 {
     tokens.expect(Terminal::Op)?;
     tokens.expect(Terminal::Name)?;
@@ -31,7 +33,8 @@ fn pass_op(tokens: &mut Tokens<'_>) -> Result<(), Unfit>
 
 #[tactic(auto, unfolding(crate::specs::Rules::cond_instr))]
 fn pass_cond(tokens: &mut Tokens<'_>) -> Result<(), Unfit>
-    ensures { eat cond_instr (left tokens.old) ≡ ended result (left tokens.new) }
+    ensures passes { eat cond_instr (left tokens.old) ≡ ended result (left tokens.new) }
+    ensures source { source tokens.new ≡ source tokens.old }
 {
     tokens.expect(Terminal::Cond)?;
     pass_operand(tokens)?;
@@ -48,7 +51,8 @@ fn begins_operands(tokens: &Tokens<'_>) -> bool
 }
 
 fn pass_arguments(tokens: &mut Tokens<'_>) -> Result<(), Unfit>
-    ensures { eat (opt operands) (left tokens.old) ≡ ended result (left tokens.new) }
+    ensures passes { eat (opt operands) (left tokens.old) ≡ ended result (left tokens.new) }
+    ensures source { source tokens.new ≡ source tokens.old }
 {
     if begins_operands(tokens) {
         pass_operands(tokens)?;
@@ -58,7 +62,8 @@ fn pass_arguments(tokens: &mut Tokens<'_>) -> Result<(), Unfit>
 
 #[tactic(auto, unfolding(crate::specs::Rules::call_instr))]
 fn pass_call(tokens: &mut Tokens<'_>) -> Result<(), Unfit>
-    ensures { eat call_instr (left tokens.old) ≡ ended result (left tokens.new) }
+    ensures passes { eat call_instr (left tokens.old) ≡ ended result (left tokens.new) }
+    ensures source { source tokens.new ≡ source tokens.old }
 {
     tokens.expect(Terminal::Call)?;
     tokens.expect(Terminal::Name)?;
@@ -72,7 +77,8 @@ fn pass_call(tokens: &mut Tokens<'_>) -> Result<(), Unfit>
 
 #[tactic(auto, unfolding(crate::specs::Rules::return_instr))]
 fn pass_return(tokens: &mut Tokens<'_>) -> Result<(), Unfit>
-    ensures { eat return_instr (left tokens.old) ≡ ended result (left tokens.new) }
+    ensures passes { eat return_instr (left tokens.old) ≡ ended result (left tokens.new) }
+    ensures source { source tokens.new ≡ source tokens.old }
 {
     tokens.expect(Terminal::Return)?;
     pass_operand(tokens)
@@ -80,7 +86,8 @@ fn pass_return(tokens: &mut Tokens<'_>) -> Result<(), Unfit>
 
 #[tactic(auto, unfolding(crate::specs::Rules::print_instr))]
 fn pass_print(tokens: &mut Tokens<'_>) -> Result<(), Unfit>
-    ensures { eat print_instr (left tokens.old) ≡ ended result (left tokens.new) }
+    ensures passes { eat print_instr (left tokens.old) ≡ ended result (left tokens.new) }
+    ensures source { source tokens.new ≡ source tokens.old }
 {
     tokens.expect(Terminal::Print)?;
     pass_operand(tokens)?;
@@ -89,7 +96,8 @@ fn pass_print(tokens: &mut Tokens<'_>) -> Result<(), Unfit>
 
 #[tactic(auto, unfolding(crate::specs::Rules::load_instr))]
 fn pass_load(tokens: &mut Tokens<'_>) -> Result<(), Unfit>
-    ensures { eat load_instr (left tokens.old) ≡ ended result (left tokens.new) }
+    ensures passes { eat load_instr (left tokens.old) ≡ ended result (left tokens.new) }
+    ensures source { source tokens.new ≡ source tokens.old }
 {
     tokens.expect(Terminal::Load)?;
     tokens.expect(Terminal::Name)?;
@@ -102,7 +110,8 @@ fn pass_load(tokens: &mut Tokens<'_>) -> Result<(), Unfit>
 
 #[tactic(auto, unfolding(crate::specs::Rules::store_instr))]
 fn pass_store(tokens: &mut Tokens<'_>) -> Result<(), Unfit>
-    ensures { eat store_instr (left tokens.old) ≡ ended result (left tokens.new) }
+    ensures passes { eat store_instr (left tokens.old) ≡ ended result (left tokens.new) }
+    ensures source { source tokens.new ≡ source tokens.old }
 {
     tokens.expect(Terminal::Store)?;
     tokens.expect(Terminal::OpenBracket)?;
@@ -115,7 +124,8 @@ fn pass_store(tokens: &mut Tokens<'_>) -> Result<(), Unfit>
 
 #[tactic(auto, unfolding(crate::specs::Rules::fail_instr))]
 fn pass_fail(tokens: &mut Tokens<'_>) -> Result<(), Unfit>
-    ensures { eat fail_instr (left tokens.old) ≡ ended result (left tokens.new) }
+    ensures passes { eat fail_instr (left tokens.old) ≡ ended result (left tokens.new) }
+    ensures source { source tokens.new ≡ source tokens.old }
 {
     tokens.expect(Terminal::Fail)?;
     tokens.expect(Terminal::Text)
@@ -123,7 +133,8 @@ fn pass_fail(tokens: &mut Tokens<'_>) -> Result<(), Unfit>
 
 #[tactic(auto, using(crate::proofs::Ahead::ahead), unfolding(crate::specs::Rules::instr, crate::specs::Rules::nop_instr, crate::specs::Rules::op_instr, crate::specs::Rules::cond_instr, crate::specs::Rules::call_instr, crate::specs::Rules::return_instr, crate::specs::Rules::print_instr, crate::specs::Rules::load_instr, crate::specs::Rules::store_instr, crate::specs::Rules::fail_instr))]
 fn pass_instr(tokens: &mut Tokens<'_>) -> Result<(), Unfit>
-    ensures { eat instr (left tokens.old) ≡ ended result (left tokens.new) }
+    ensures passes { eat instr (left tokens.old) ≡ ended result (left tokens.new) }
+    ensures source { source tokens.new ≡ source tokens.old }
 {
     match tokens.peek() {
         Terminal::Nop => pass_nop(tokens),
@@ -140,7 +151,8 @@ fn pass_instr(tokens: &mut Tokens<'_>) -> Result<(), Unfit>
 
 #[tactic(auto, unfolding(crate::specs::Rules::line))]
 fn pass_line(tokens: &mut Tokens<'_>) -> Result<(), Unfit>
-    ensures { eat line (left tokens.old) ≡ ended result (left tokens.new) }
+    ensures passes { eat line (left tokens.old) ≡ ended result (left tokens.new) }
+    ensures source { source tokens.new ≡ source tokens.old }
 {
     tokens.expect(Terminal::Number)?;
     tokens.expect(Terminal::Colon)?;
@@ -149,7 +161,8 @@ fn pass_line(tokens: &mut Tokens<'_>) -> Result<(), Unfit>
 
 #[tactic(auto, using(crate::proofs::Turns::lines_go, crate::proofs::Turns::lines_stop, crate::proofs::Turns::line_shorter))]
 pub(crate) fn pass_lines(tokens: &mut Tokens<'_>) -> Result<(), Unfit>
-    ensures { eat lines (left tokens.old) ≡ ended result (left tokens.new) }
+    ensures passes { eat lines (left tokens.old) ≡ ended result (left tokens.new) }
+    ensures source { source tokens.new ≡ source tokens.old }
 {
     'more: while tokens.is_at(Terminal::Number) {
         pass_line(tokens)?;

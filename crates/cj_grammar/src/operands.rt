@@ -1,7 +1,7 @@
 //! Passing over operands, names and expressions.
 
 ghost use Rattle.std.specs.Prelude.{◌≡◌};
-ghost use Rattle.cj_tokens.specs.Left.{left};
+ghost use Rattle.cj_tokens.specs.Left.{left, source};
 ghost use Rattle.cj_tokens.specs.Passing.{ended};
 ghost use Rattle.cj_tokens.specs.declared.terminal.Terminal.TheVariants.{Comma, Name};
 ghost use Rattle.cj_grammar.specs.Grammar.{opt};
@@ -12,7 +12,8 @@ use cj_tokens::{Terminal, Tokens, Unfit};
 
 #[tactic(auto, using(crate::proofs::Ahead::ahead), unfolding(crate::specs::Rules::operand))]
 pub(crate) fn pass_operand(tokens: &mut Tokens<'_>) -> Result<(), Unfit>
-    ensures { eat operand (left tokens.old) ≡ ended result (left tokens.new) }
+    ensures passes { eat operand (left tokens.old) ≡ ended result (left tokens.new) }
+    ensures source { source tokens.new ≡ source tokens.old }
 {
     match tokens.peek() {
         Terminal::Name => tokens.expect(Terminal::Name),
@@ -21,7 +22,8 @@ pub(crate) fn pass_operand(tokens: &mut Tokens<'_>) -> Result<(), Unfit>
 }
 
 fn pass_next_operand(tokens: &mut Tokens<'_>) -> Result<(), Unfit>
-    ensures { eat (one Comma ▸ operand) (left tokens.old) ≡ ended result (left tokens.new) }
+    ensures passes { eat (one Comma ▸ operand) (left tokens.old) ≡ ended result (left tokens.new) }
+    ensures source { source tokens.new ≡ source tokens.old }
 {
     tokens.expect(Terminal::Comma)?;
     pass_operand(tokens)
@@ -29,7 +31,8 @@ fn pass_next_operand(tokens: &mut Tokens<'_>) -> Result<(), Unfit>
 
 #[tactic(auto, using(crate::proofs::Turns::more_operands_go, crate::proofs::Turns::more_operands_stop, crate::proofs::Turns::next_operand_shorter), unfolding(crate::specs::Rules::operands))]
 pub(crate) fn pass_operands(tokens: &mut Tokens<'_>) -> Result<(), Unfit>
-    ensures { eat operands (left tokens.old) ≡ ended result (left tokens.new) }
+    ensures passes { eat operands (left tokens.old) ≡ ended result (left tokens.new) }
+    ensures source { source tokens.new ≡ source tokens.old }
 {
     pass_operand(tokens)?;
     'more: while tokens.is_at(Terminal::Comma) {
@@ -39,7 +42,8 @@ pub(crate) fn pass_operands(tokens: &mut Tokens<'_>) -> Result<(), Unfit>
 }
 
 fn pass_next_name(tokens: &mut Tokens<'_>) -> Result<(), Unfit>
-    ensures { eat (one Comma ▸ one Name) (left tokens.old) ≡ ended result (left tokens.new) }
+    ensures passes { eat (one Comma ▸ one Name) (left tokens.old) ≡ ended result (left tokens.new) }
+    ensures source { source tokens.new ≡ source tokens.old }
 {
     tokens.expect(Terminal::Comma)?;
     tokens.expect(Terminal::Name)
@@ -47,7 +51,8 @@ fn pass_next_name(tokens: &mut Tokens<'_>) -> Result<(), Unfit>
 
 #[tactic(auto, using(crate::proofs::Turns::more_names_go, crate::proofs::Turns::more_names_stop, crate::proofs::Turns::next_name_shorter), unfolding(crate::specs::Rules::names))]
 pub(crate) fn pass_names(tokens: &mut Tokens<'_>) -> Result<(), Unfit>
-    ensures { eat names (left tokens.old) ≡ ended result (left tokens.new) }
+    ensures passes { eat names (left tokens.old) ≡ ended result (left tokens.new) }
+    ensures source { source tokens.new ≡ source tokens.old }
 {
     tokens.expect(Terminal::Name)?;
     'more: while tokens.is_at(Terminal::Comma) {
@@ -58,7 +63,8 @@ pub(crate) fn pass_names(tokens: &mut Tokens<'_>) -> Result<(), Unfit>
 
 #[tactic(auto, using(crate::proofs::Ahead::ahead), unfolding(crate::specs::Rules::binary))]
 fn pass_binary(tokens: &mut Tokens<'_>) -> Result<(), Unfit>
-    ensures { eat binary (left tokens.old) ≡ ended result (left tokens.new) }
+    ensures passes { eat binary (left tokens.old) ≡ ended result (left tokens.new) }
+    ensures source { source tokens.new ≡ source tokens.old }
 {
     match tokens.peek() {
         Terminal::Plus => tokens.expect(Terminal::Plus),
@@ -89,7 +95,8 @@ fn begins_binary(tokens: &Tokens<'_>) -> bool
 
 #[tactic(auto, unfolding(crate::specs::Rules::binary))]
 fn pass_second(tokens: &mut Tokens<'_>) -> Result<(), Unfit>
-    ensures { eat (opt (binary ▸ operand)) (left tokens.old) ≡ ended result (left tokens.new) }
+    ensures passes { eat (opt (binary ▸ operand)) (left tokens.old) ≡ ended result (left tokens.new) }
+    ensures source { source tokens.new ≡ source tokens.old }
 {
     if begins_binary(tokens) {
         pass_binary(tokens)?;
@@ -99,7 +106,8 @@ fn pass_second(tokens: &mut Tokens<'_>) -> Result<(), Unfit>
 }
 
 fn pass_unmarked(tokens: &mut Tokens<'_>) -> Result<(), Unfit>
-    ensures { eat (operand ▸ opt (binary ▸ operand)) (left tokens.old) ≡ ended result (left tokens.new) }
+    ensures passes { eat (operand ▸ opt (binary ▸ operand)) (left tokens.old) ≡ ended result (left tokens.new) }
+    ensures source { source tokens.new ≡ source tokens.old }
 {
     pass_operand(tokens)?;
     pass_second(tokens)
@@ -107,7 +115,8 @@ fn pass_unmarked(tokens: &mut Tokens<'_>) -> Result<(), Unfit>
 
 #[tactic(auto, using(crate::proofs::Ahead::ahead), unfolding(crate::specs::Rules::expr))]
 pub(crate) fn pass_expr(tokens: &mut Tokens<'_>) -> Result<(), Unfit>
-    ensures { eat expr (left tokens.old) ≡ ended result (left tokens.new) }
+    ensures passes { eat expr (left tokens.old) ≡ ended result (left tokens.new) }
+    ensures source { source tokens.new ≡ source tokens.old }
 {
     match tokens.peek() {
         Terminal::Neg => {
@@ -124,7 +133,8 @@ pub(crate) fn pass_expr(tokens: &mut Tokens<'_>) -> Result<(), Unfit>
 
 #[tactic(auto, unfolding(crate::specs::Rules::target))]
 pub(crate) fn pass_target(tokens: &mut Tokens<'_>) -> Result<(), Unfit>
-    ensures { eat target (left tokens.old) ≡ ended result (left tokens.new) }
+    ensures passes { eat target (left tokens.old) ≡ ended result (left tokens.new) }
+    ensures source { source tokens.new ≡ source tokens.old }
 {
     tokens.expect(Terminal::Arrow)?;
     tokens.expect(Terminal::Number)

@@ -1,7 +1,7 @@
 //! Passing over scripts.
 
 ghost use Rattle.std.specs.Prelude.{◌≡◌};
-ghost use Rattle.cj_tokens.specs.Left.{left};
+ghost use Rattle.cj_tokens.specs.Left.{left, source};
 ghost use Rattle.cj_tokens.specs.Passing.{ended};
 ghost use Rattle.cj_tokens.specs.declared.terminal.Terminal.TheVariants.{Memory, Number};
 ghost use Rattle.cj_grammar.specs.Grammar.{opt};
@@ -13,7 +13,8 @@ use cj_tokens::{Terminal, Tokens, Unfit};
 
 #[tactic(auto, unfolding(crate::specs::Rules::guess_setup))]
 fn pass_guess(tokens: &mut Tokens<'_>) -> Result<(), Unfit>
-    ensures { eat guess_setup (left tokens.old) ≡ ended result (left tokens.new) }
+    ensures passes { eat guess_setup (left tokens.old) ≡ ended result (left tokens.new) }
+    ensures source { source tokens.new ≡ source tokens.old }
 {
     tokens.expect(Terminal::Guess)?;
     tokens.expect(Terminal::Name)?;
@@ -23,7 +24,8 @@ fn pass_guess(tokens: &mut Tokens<'_>) -> Result<(), Unfit>
 
 #[tactic(auto, using(crate::proofs::Ahead::ahead), unfolding(crate::specs::Rules::edge))]
 fn pass_edge(tokens: &mut Tokens<'_>) -> Result<(), Unfit>
-    ensures { eat edge (left tokens.old) ≡ ended result (left tokens.new) }
+    ensures passes { eat edge (left tokens.old) ≡ ended result (left tokens.new) }
+    ensures source { source tokens.new ≡ source tokens.old }
 {
     match tokens.peek() {
         Terminal::Then => tokens.expect(Terminal::Then),
@@ -33,7 +35,8 @@ fn pass_edge(tokens: &mut Tokens<'_>) -> Result<(), Unfit>
 
 #[tactic(auto, unfolding(crate::specs::Rules::cold_setup))]
 fn pass_cold(tokens: &mut Tokens<'_>) -> Result<(), Unfit>
-    ensures { eat cold_setup (left tokens.old) ≡ ended result (left tokens.new) }
+    ensures passes { eat cold_setup (left tokens.old) ≡ ended result (left tokens.new) }
+    ensures source { source tokens.new ≡ source tokens.old }
 {
     tokens.expect(Terminal::Cold)?;
     tokens.expect(Terminal::Name)?;
@@ -43,7 +46,8 @@ fn pass_cold(tokens: &mut Tokens<'_>) -> Result<(), Unfit>
 
 #[tactic(auto, unfolding(crate::specs::Rules::warm_setup))]
 fn pass_warm(tokens: &mut Tokens<'_>) -> Result<(), Unfit>
-    ensures { eat warm_setup (left tokens.old) ≡ ended result (left tokens.new) }
+    ensures passes { eat warm_setup (left tokens.old) ≡ ended result (left tokens.new) }
+    ensures source { source tokens.new ≡ source tokens.old }
 {
     tokens.expect(Terminal::Warm)?;
     tokens.expect(Terminal::Name)?;
@@ -62,7 +66,8 @@ fn begins_setup(tokens: &Tokens<'_>) -> bool
 
 #[tactic(auto, using(crate::proofs::Ahead::ahead), unfolding(crate::specs::Rules::setup, crate::specs::Rules::guess_setup, crate::specs::Rules::cold_setup, crate::specs::Rules::warm_setup))]
 fn pass_setup(tokens: &mut Tokens<'_>) -> Result<(), Unfit>
-    ensures { eat setup (left tokens.old) ≡ ended result (left tokens.new) }
+    ensures passes { eat setup (left tokens.old) ≡ ended result (left tokens.new) }
+    ensures source { source tokens.new ≡ source tokens.old }
 {
     match tokens.peek() {
         Terminal::Guess => pass_guess(tokens),
@@ -73,7 +78,8 @@ fn pass_setup(tokens: &mut Tokens<'_>) -> Result<(), Unfit>
 
 #[tactic(auto, using(crate::proofs::Turns::setups_go, crate::proofs::Turns::setups_stop, crate::proofs::Turns::setup_shorter))]
 fn pass_setups(tokens: &mut Tokens<'_>) -> Result<(), Unfit>
-    ensures { eat setups (left tokens.old) ≡ ended result (left tokens.new) }
+    ensures passes { eat setups (left tokens.old) ≡ ended result (left tokens.new) }
+    ensures source { source tokens.new ≡ source tokens.old }
 {
     'more: while begins_setup(tokens) {
         pass_setup(tokens)?;
@@ -83,7 +89,8 @@ fn pass_setups(tokens: &mut Tokens<'_>) -> Result<(), Unfit>
 
 #[tactic(auto, using(crate::proofs::Turns::numbers_go, crate::proofs::Turns::numbers_stop, crate::proofs::Turns::number_shorter))]
 fn pass_numbers(tokens: &mut Tokens<'_>) -> Result<(), Unfit>
-    ensures { eat numbers (left tokens.old) ≡ ended result (left tokens.new) }
+    ensures passes { eat numbers (left tokens.old) ≡ ended result (left tokens.new) }
+    ensures source { source tokens.new ≡ source tokens.old }
 {
     'more: while tokens.is_at(Terminal::Number) {
         tokens.expect(Terminal::Number)?;
@@ -93,7 +100,8 @@ fn pass_numbers(tokens: &mut Tokens<'_>) -> Result<(), Unfit>
 
 #[tactic(auto, using(crate::proofs::Ahead::ahead))]
 fn pass_memory(tokens: &mut Tokens<'_>) -> Result<(), Unfit>
-    ensures { eat (opt (one Memory ▸ one Number)) (left tokens.old) ≡ ended result (left tokens.new) }
+    ensures passes { eat (opt (one Memory ▸ one Number)) (left tokens.old) ≡ ended result (left tokens.new) }
+    ensures source { source tokens.new ≡ source tokens.old }
 {
     if tokens.is_at(Terminal::Memory) {
         tokens.expect(Terminal::Memory)?;
@@ -106,7 +114,8 @@ fn pass_memory(tokens: &mut Tokens<'_>) -> Result<(), Unfit>
 /// part with those before it.
 #[tactic(auto, unfolding(crate::specs::Rules::begun))]
 pub fn pass_begun(tokens: &mut Tokens<'_>) -> Result<(), Unfit>
-    ensures { eat begun (left tokens.old) ≡ ended result (left tokens.new) }
+    ensures passes { eat begun (left tokens.old) ≡ ended result (left tokens.new) }
+    ensures source { source tokens.new ≡ source tokens.old }
 {
     tokens.expect(Terminal::Name)?;
     pass_numbers(tokens)?;
@@ -117,7 +126,8 @@ pub fn pass_begun(tokens: &mut Tokens<'_>) -> Result<(), Unfit>
 
 #[tactic(auto, unfolding(crate::specs::Rules::script_call))]
 fn pass_script_call(tokens: &mut Tokens<'_>) -> Result<(), Unfit>
-    ensures { eat script_call (left tokens.old) ≡ ended result (left tokens.new) }
+    ensures passes { eat script_call (left tokens.old) ≡ ended result (left tokens.new) }
+    ensures source { source tokens.new ≡ source tokens.old }
 {
     tokens.expect(Terminal::Call)?;
     pass_begun(tokens)
@@ -125,7 +135,8 @@ fn pass_script_call(tokens: &mut Tokens<'_>) -> Result<(), Unfit>
 
 #[tactic(auto, using(crate::proofs::Turns::script_calls_go, crate::proofs::Turns::script_calls_stop, crate::proofs::Turns::script_call_shorter))]
 fn pass_script_calls(tokens: &mut Tokens<'_>) -> Result<(), Unfit>
-    ensures { eat script_calls (left tokens.old) ≡ ended result (left tokens.new) }
+    ensures passes { eat script_calls (left tokens.old) ≡ ended result (left tokens.new) }
+    ensures source { source tokens.new ≡ source tokens.old }
 {
     'more: while tokens.is_at(Terminal::Call) {
         pass_script_call(tokens)?;
@@ -135,7 +146,8 @@ fn pass_script_calls(tokens: &mut Tokens<'_>) -> Result<(), Unfit>
 
 #[tactic(auto, unfolding(crate::specs::Rules::script))]
 fn pass_script(tokens: &mut Tokens<'_>) -> Result<(), Unfit>
-    ensures { eat script (left tokens.old) ≡ ended result (left tokens.new) }
+    ensures passes { eat script (left tokens.old) ≡ ended result (left tokens.new) }
+    ensures source { source tokens.new ≡ source tokens.old }
 {
     tokens.expect(Terminal::Calls)?;
     pass_setups(tokens)?;
@@ -144,7 +156,8 @@ fn pass_script(tokens: &mut Tokens<'_>) -> Result<(), Unfit>
 
 #[tactic(auto, unfolding(crate::specs::Rules::input))]
 pub(crate) fn pass_input(tokens: &mut Tokens<'_>) -> Result<(), Unfit>
-    ensures { eat input (left tokens.old) ≡ ended result (left tokens.new) }
+    ensures passes { eat input (left tokens.old) ≡ ended result (left tokens.new) }
+    ensures source { source tokens.new ≡ source tokens.old }
 {
     pass_funs(tokens)?;
     pass_script(tokens)?;

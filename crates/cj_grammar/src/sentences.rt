@@ -1,8 +1,8 @@
 //! Whether tokens stand as the grammar wants them, and which offence of the first class they have first.
 
-ghost use Rattle.std.specs.Prelude.{◌≡◌, List, OnOk, OnErr, IfErr};
+ghost use Rattle.std.specs.Prelude.{◌≡◌, ℕ, List, OnOk, OnErr, IfErr};
 ghost use Rattle.cj_tokens.specs.Ends.{HasOneEnd};
-ghost use Rattle.cj_tokens.specs.Left.{left};
+ghost use Rattle.cj_tokens.specs.Left.{left, source};
 ghost use Rattle.cj_tokens.specs.Lexemes.{Lexeme};
 ghost use Rattle.cj_tokens.specs.Passing.{front};
 ghost use Rattle.cj_tokens.specs.Seen.{seen};
@@ -21,6 +21,9 @@ pub trait Shape {
     // The tokens that are left.
     ghost lexemes: { Self → List Lexeme };
 
+    // The text that they are of, which tells their places.
+    ghost text: { Self → List ℕ };
+
     /// Goes past functions, up to the first token behind a function that is not `fun`. It takes no memory.
     ///
     /// Refused: where the tokens do not begin with functions. It is the line and the kind of the first token with
@@ -30,6 +33,7 @@ pub trait Shape {
         requires { HasOneEnd (lexemes self.old) }
         ensures past { OnOk result (GoesPast (lexemes self.old) (lexemes self.new)) }
         ensures end { OnOk result (HasOneEnd (lexemes self.new)) }
+        ensures text { text self.new ≡ text self.old }
         ensures first { IfErr result (λ refused. IsFirstOffence funs (lexemes self.old) refused) }
         ensures none { OnErr result (¬ (HasFunctions (lexemes self.old))) }
         ensures same { OnErr result (self.new ≡ self.old) };
@@ -37,6 +41,8 @@ pub trait Shape {
 
 impl Shape for Tokens<'_> {
     ghost lexemes = { left };
+
+    ghost text = { source };
 
     #[tactic(auto, using(crate::proofs::ShapesLaws::funs_past, crate::proofs::ShapesLaws::funs_end, crate::proofs::ShapesLaws::funs_offence, crate::proofs::ShapesLaws::funs_none))]
     fn shape(&mut self) -> Result<(), Refused> {

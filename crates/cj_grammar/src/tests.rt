@@ -1,7 +1,11 @@
 //! Texts that are inputs, and texts that are none, by hand.
 
+ghost use Rattle.std.specs.Prelude.{◌≡◌, IfOk};
+ghost use Rattle.cj_tokens.specs.declared.piece.Piece.TheVariants.{Keyword};
+
 use crate::sentences::{Shape, fits_input};
-use cj_tokens::{Kind, Refused, Terminal, Tokens};
+use cj_tokens::laws::places_are_told;
+use cj_tokens::{Kind, Piece, Refused, Terminal, Token, Tokens};
 
 const PROGRAM: &str = "fun main(n; r) {\n1: op r = n + 1 -> 2\n2: print r -> 3\n3: return r\n}\n";
 
@@ -53,6 +57,31 @@ fn functions_in_front(rt: HostRuntime) {
         assert_eq!(rt; tokens.shape(), wanted, "of {text:?}");
         assert_eq!(rt; tokens.peek(), next, "behind {text:?}");
     }
+}
+
+// The token behind a function: where it stands is proved.
+fn behind_a_function() -> Result<Token, Refused>
+    ensures { IfOk result (λ token. token ≡ record { line = 2; start = 10; end = 15; what = Keyword }) }
+{
+    let mut tokens = Tokens::of(b"fun f(){}\ncalls");
+    match tokens.shape() {
+        Ok(()) => {
+            places_are_told(&tokens);
+            tokens.next()
+        }
+        Err(refused) => Err(refused),
+    }
+}
+
+#[test]
+fn places_behind_functions(rt: HostRuntime) {
+    let calls = Token {
+        line: 2,
+        start: 10,
+        end: 15,
+        what: Piece::Keyword,
+    };
+    assert_eq!(rt; behind_a_function(), Ok(calls));
 }
 
 #[test]

@@ -2,7 +2,7 @@
 
 ghost use Rattle.std.specs.Prelude.{◌≡◌};
 ghost use Rattle.cj_tokens.specs.Seen.{seen};
-ghost use Rattle.cj_tokens.specs.Left.{left};
+ghost use Rattle.cj_tokens.specs.Left.{left, source};
 ghost use Rattle.cj_grammar.specs.Readers.{Found, Gives, each_at};
 ghost use Rattle.cj_reader.specs.Known.{scope_in, Grows};
 ghost use Rattle.cj_reader.specs.Reading.{callee_at, one_more_at, next_operand_at, arguments_at, called_at};
@@ -44,7 +44,8 @@ fn add_operand(
     scope: Scope<'_>,
     operands: &mut Operands,
 ) -> Result<(), ParseError>
-    ensures { Grows result operands.new (left tokens.new) (one_more_at (next_operand_at (scope_in scope.entry)) operands.old (left tokens.old)) }
+    ensures reads { Grows result operands.new (left tokens.new) (one_more_at (next_operand_at (scope_in scope.entry)) operands.old (left tokens.old)) }
+    ensures source { source tokens.new ≡ source tokens.old }
 {
     let _comma = tokens.take();
     let operand = read_operand(tokens, scope)?;
@@ -58,7 +59,8 @@ fn read_more(
     count: u32,
     mut operands: Operands,
 ) -> Result<Operands, ParseError>
-    ensures { Gives result (left tokens.new) (each_at (next_operand_at (scope_in scope.entry)) count operands (left tokens.old)) }
+    ensures reads { Gives result (left tokens.new) (each_at (next_operand_at (scope_in scope.entry)) count operands (left tokens.old)) }
+    ensures source { source tokens.new ≡ source tokens.old }
 {
     'more: for k in 0..count {
         match add_operand(tokens, scope, &mut operands) {
@@ -76,7 +78,8 @@ fn read_arguments(
     scope: Scope<'_>,
     count: u32,
 ) -> Result<Operands, ParseError>
-    ensures { Gives result (left tokens.new) (arguments_at (scope_in scope.entry) count (left tokens.old)) }
+    ensures reads { Gives result (left tokens.new) (arguments_at (scope_in scope.entry) count (left tokens.old)) }
+    ensures source { source tokens.new ≡ source tokens.old }
 {
     let mut operands = Operands::new(alloc);
     if count == 0 {
@@ -94,7 +97,8 @@ pub fn read_called(
     tokens: &mut Tokens<'_>,
     scope: Scope<'_>,
 ) -> Result<Called, ParseError>
-    ensures { Gives result (left tokens.new) (called_at (scope_in scope.entry) (left tokens.old)) }
+    ensures reads { Gives result (left tokens.new) (called_at (scope_in scope.entry) (left tokens.old)) }
+    ensures source { source tokens.new ≡ source tokens.old }
 {
     let name = tokens.take();
     let _paren = tokens.take();

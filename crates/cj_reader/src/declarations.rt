@@ -1,7 +1,7 @@
 //! What a function declares in front of its lines.
 
 ghost use Rattle.std.specs.Prelude.{◌≡◌, ◌≤◌, length, IfOk};
-ghost use Rattle.cj_tokens.specs.Left.{left};
+ghost use Rattle.cj_tokens.specs.Left.{left, source};
 ghost use Rattle.cj_grammar.specs.Readers.{Gives};
 ghost use Rattle.cj_reader.specs.Reading.{declared_at};
 
@@ -23,6 +23,7 @@ pub struct Declared {
 #[tactic(auto, unfolding(crate::specs::Reading::declared_at))]
 pub fn read_declared(alloc: Global, tokens: &mut Tokens<'_>) -> Result<Declared, ParseError>
     ensures reads { Gives result (left tokens.new) (declared_at (left tokens.old)) }
+    ensures source { source tokens.new ≡ source tokens.old }
     ensures few { IfOk result (λ declared. length declared.registers ≤ MAX_REGS) }
 {
     let _paren = tokens.take();

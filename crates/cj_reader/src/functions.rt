@@ -3,7 +3,7 @@
 ghost use Rattle.std.specs.Prelude.{◌≡◌, ◌≤◌, length, true, []};
 ghost use Rattle.cj_tokens.specs.Words.{is_free_word};
 ghost use Rattle.cj_tokens.specs.Seen.{seen};
-ghost use Rattle.cj_tokens.specs.Left.{left};
+ghost use Rattle.cj_tokens.specs.Left.{left, source};
 ghost use Rattle.cj_tokens.specs.declared.terminal.Terminal.TheVariants as terminal;
 ghost use Rattle.cj_grammar.specs.Readers.{Found, Gives, each_at};
 ghost use Rattle.cj_reader.specs.Known.{function_in, Grows};
@@ -58,7 +58,8 @@ fn read_code(
     registers: &[Name],
 ) -> Result<Lines, ParseError>
     requires { length registers.now ≤ MAX_REGS }
-    ensures { Gives result (left tokens.new) (code_at (function_in functions.now) registers.now (left tokens.old)) }
+    ensures reads { Gives result (left tokens.new) (code_at (function_in functions.now) registers.now (left tokens.old)) }
+    ensures source { source tokens.new ≡ source tokens.old }
 {
     let labels = scan_lines(alloc, *tokens)?;
     let scope = Scope {
@@ -77,7 +78,8 @@ fn read_function(
     functions: &Functions<'_>,
     earlier: &[Function],
 ) -> Result<Function, ParseError>
-    ensures { Gives result (left tokens.new) (function_at (function_in functions.now) earlier.now (left tokens.old)) }
+    ensures reads { Gives result (left tokens.new) (function_at (function_in functions.now) earlier.now (left tokens.old)) }
+    ensures source { source tokens.new ≡ source tokens.old }
 {
     let _fun = tokens.take();
     let token = tokens.take();
@@ -99,7 +101,8 @@ fn add_function(
     functions: &Functions<'_>,
     all: &mut cj_ir::Functions,
 ) -> Result<(), ParseError>
-    ensures { Grows result all.new (left tokens.new) (one_more_at (function_at (function_in functions.now)) all.old (left tokens.old)) }
+    ensures reads { Grows result all.new (left tokens.new) (one_more_at (function_at (function_in functions.now)) all.old (left tokens.old)) }
+    ensures source { source tokens.new ≡ source tokens.old }
 {
     let function = read_function(alloc, tokens, functions, all.items())?;
     remembered(all.push(function))
@@ -111,7 +114,8 @@ pub fn read_functions(
     tokens: &mut Tokens<'_>,
     functions: &Functions<'_>,
 ) -> Result<cj_ir::Functions, ParseError>
-    ensures { Gives result (left tokens.new) (each_at (function_at (function_in functions.now)) functions.now.count [] (left tokens.old)) }
+    ensures reads { Gives result (left tokens.new) (each_at (function_at (function_in functions.now)) functions.now.count [] (left tokens.old)) }
+    ensures source { source tokens.new ≡ source tokens.old }
 {
     let mut all = cj_ir::Functions::new(alloc);
     let count = functions.count;

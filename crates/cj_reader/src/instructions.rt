@@ -1,7 +1,7 @@
 //! Instructions.
 
 ghost use Rattle.std.specs.Prelude.{◌≡◌};
-ghost use Rattle.cj_tokens.specs.Left.{left};
+ghost use Rattle.cj_tokens.specs.Left.{left, source};
 ghost use Rattle.cj_grammar.specs.Readers.{Gives};
 ghost use Rattle.cj_reader.specs.Known.{scope_in};
 ghost use Rattle.cj_reader.specs.Reading.{nop_at, op_at, cond_at, call_at, return_at, print_at, load_at, store_at, fail_at, instr_at};
@@ -18,7 +18,8 @@ use std::alloc::Global;
 
 #[tactic(auto, unfolding(crate::specs::Reading::nop_at))]
 fn read_nop(tokens: &mut Tokens<'_>, scope: Scope<'_>) -> Result<Instr, ParseError>
-    ensures { Gives result (left tokens.new) (nop_at (scope_in scope.entry) (left tokens.old)) }
+    ensures reads { Gives result (left tokens.new) (nop_at (scope_in scope.entry) (left tokens.old)) }
+    ensures source { source tokens.new ≡ source tokens.old }
 {
     let next = read_target(tokens, scope)?;
     Ok(Instr::Nop { next })
@@ -26,7 +27,8 @@ fn read_nop(tokens: &mut Tokens<'_>, scope: Scope<'_>) -> Result<Instr, ParseErr
 
 #[tactic(auto, unfolding(crate::specs::Reading::op_at))]
 fn read_op(tokens: &mut Tokens<'_>, scope: Scope<'_>) -> Result<Instr, ParseError>
-    ensures { Gives result (left tokens.new) (op_at (scope_in scope.entry) (left tokens.old)) }
+    ensures reads { Gives result (left tokens.new) (op_at (scope_in scope.entry) (left tokens.old)) }
+    ensures source { source tokens.new ≡ source tokens.old }
 {
     let dest = read_dest(tokens, scope)?;
     let expr = read_expr(tokens, scope)?;
@@ -36,7 +38,8 @@ fn read_op(tokens: &mut Tokens<'_>, scope: Scope<'_>) -> Result<Instr, ParseErro
 
 #[tactic(auto, unfolding(crate::specs::Reading::cond_at))]
 fn read_cond(tokens: &mut Tokens<'_>, scope: Scope<'_>) -> Result<Instr, ParseError>
-    ensures { Gives result (left tokens.new) (cond_at (scope_in scope.entry) (left tokens.old)) }
+    ensures reads { Gives result (left tokens.new) (cond_at (scope_in scope.entry) (left tokens.old)) }
+    ensures source { source tokens.new ≡ source tokens.old }
 {
     let test = read_operand(tokens, scope)?;
     let then_to = read_target(tokens, scope)?;
@@ -50,7 +53,8 @@ fn read_cond(tokens: &mut Tokens<'_>, scope: Scope<'_>) -> Result<Instr, ParseEr
 
 #[tactic(auto, unfolding(crate::specs::Reading::call_at))]
 fn read_call(alloc: Global, tokens: &mut Tokens<'_>, scope: Scope<'_>) -> Result<Instr, ParseError>
-    ensures { Gives result (left tokens.new) (call_at (scope_in scope.entry) (left tokens.old)) }
+    ensures reads { Gives result (left tokens.new) (call_at (scope_in scope.entry) (left tokens.old)) }
+    ensures source { source tokens.new ≡ source tokens.old }
 {
     let dest = read_dest(tokens, scope)?;
     let Called { function, args } = read_called(alloc, tokens, scope)?;
@@ -65,7 +69,8 @@ fn read_call(alloc: Global, tokens: &mut Tokens<'_>, scope: Scope<'_>) -> Result
 
 #[tactic(auto, unfolding(crate::specs::Reading::return_at))]
 fn read_return(tokens: &mut Tokens<'_>, scope: Scope<'_>) -> Result<Instr, ParseError>
-    ensures { Gives result (left tokens.new) (return_at (scope_in scope.entry) (left tokens.old)) }
+    ensures reads { Gives result (left tokens.new) (return_at (scope_in scope.entry) (left tokens.old)) }
+    ensures source { source tokens.new ≡ source tokens.old }
 {
     let value = read_operand(tokens, scope)?;
     Ok(Instr::Return { value })
@@ -73,7 +78,8 @@ fn read_return(tokens: &mut Tokens<'_>, scope: Scope<'_>) -> Result<Instr, Parse
 
 #[tactic(auto, unfolding(crate::specs::Reading::print_at))]
 fn read_print(tokens: &mut Tokens<'_>, scope: Scope<'_>) -> Result<Instr, ParseError>
-    ensures { Gives result (left tokens.new) (print_at (scope_in scope.entry) (left tokens.old)) }
+    ensures reads { Gives result (left tokens.new) (print_at (scope_in scope.entry) (left tokens.old)) }
+    ensures source { source tokens.new ≡ source tokens.old }
 {
     let value = read_operand(tokens, scope)?;
     let next = read_target(tokens, scope)?;
@@ -82,7 +88,8 @@ fn read_print(tokens: &mut Tokens<'_>, scope: Scope<'_>) -> Result<Instr, ParseE
 
 #[tactic(auto, unfolding(crate::specs::Reading::load_at))]
 fn read_load(tokens: &mut Tokens<'_>, scope: Scope<'_>) -> Result<Instr, ParseError>
-    ensures { Gives result (left tokens.new) (load_at (scope_in scope.entry) (left tokens.old)) }
+    ensures reads { Gives result (left tokens.new) (load_at (scope_in scope.entry) (left tokens.old)) }
+    ensures source { source tokens.new ≡ source tokens.old }
 {
     let dest = read_dest(tokens, scope)?;
     let address = read_address(tokens, scope)?;
@@ -96,7 +103,8 @@ fn read_load(tokens: &mut Tokens<'_>, scope: Scope<'_>) -> Result<Instr, ParseEr
 
 #[tactic(auto, unfolding(crate::specs::Reading::store_at))]
 fn read_store(tokens: &mut Tokens<'_>, scope: Scope<'_>) -> Result<Instr, ParseError>
-    ensures { Gives result (left tokens.new) (store_at (scope_in scope.entry) (left tokens.old)) }
+    ensures reads { Gives result (left tokens.new) (store_at (scope_in scope.entry) (left tokens.old)) }
+    ensures source { source tokens.new ≡ source tokens.old }
 {
     let address = read_address(tokens, scope)?;
     let _equals = tokens.take();
@@ -111,7 +119,8 @@ fn read_store(tokens: &mut Tokens<'_>, scope: Scope<'_>) -> Result<Instr, ParseE
 
 #[tactic(auto, unfolding(crate::specs::Reading::fail_at))]
 fn read_fail(alloc: Global, tokens: &mut Tokens<'_>) -> Result<Instr, ParseError>
-    ensures { Gives result (left tokens.new) (fail_at (left tokens.old)) }
+    ensures reads { Gives result (left tokens.new) (fail_at (left tokens.old)) }
+    ensures source { source tokens.new ≡ source tokens.old }
 {
     let token = tokens.take();
     refuse_if(token.text.len() > MAX_TEXT, token, Kind::TooMany)?;
@@ -126,7 +135,8 @@ pub fn read_instr(
     tokens: &mut Tokens<'_>,
     scope: Scope<'_>,
 ) -> Result<Instr, ParseError>
-    ensures { Gives result (left tokens.new) (instr_at (scope_in scope.entry) (left tokens.old)) }
+    ensures reads { Gives result (left tokens.new) (instr_at (scope_in scope.entry) (left tokens.old)) }
+    ensures source { source tokens.new ≡ source tokens.old }
 {
     let word = tokens.take();
     match word.terminal {

@@ -2,7 +2,7 @@
 
 ghost use Rattle.std.specs.Prelude.{◌≡◌, ◌≤◌, length, []};
 ghost use Rattle.cj_tokens.specs.Seen.{seen};
-ghost use Rattle.cj_tokens.specs.Left.{left};
+ghost use Rattle.cj_tokens.specs.Left.{left, source};
 ghost use Rattle.cj_grammar.specs.Readers.{Found, Gives, each_at};
 ghost use Rattle.cj_reader.specs.Known.{scope_in, Grows};
 ghost use Rattle.cj_reader.specs.Reading.{is_before, line_number_at, line_at, one_more_at, body_at};
@@ -47,7 +47,8 @@ fn read_line(
     scope: Scope<'_>,
     earlier: &[Line],
 ) -> Result<Line, ParseError>
-    ensures { Gives result (left tokens.new) (line_at (scope_in scope.entry) earlier.now (left tokens.old)) }
+    ensures reads { Gives result (left tokens.new) (line_at (scope_in scope.entry) earlier.now (left tokens.old)) }
+    ensures source { source tokens.new ≡ source tokens.old }
 {
     let number = tokens.take();
     let name = line_number(scope, earlier.len(), number)?;
@@ -62,7 +63,8 @@ fn add_line(
     scope: Scope<'_>,
     lines: &mut Lines,
 ) -> Result<(), ParseError>
-    ensures { Grows result lines.new (left tokens.new) (one_more_at (line_at (scope_in scope.entry)) lines.old (left tokens.old)) }
+    ensures reads { Grows result lines.new (left tokens.new) (one_more_at (line_at (scope_in scope.entry)) lines.old (left tokens.old)) }
+    ensures source { source tokens.new ≡ source tokens.old }
 {
     let line = read_line(alloc, tokens, scope, lines.items())?;
     remembered(lines.push(line))
@@ -75,7 +77,8 @@ fn read_lines(
     scope: Scope<'_>,
     count: u32,
 ) -> Result<Lines, ParseError>
-    ensures { Gives result (left tokens.new) (each_at (line_at (scope_in scope.entry)) count [] (left tokens.old)) }
+    ensures reads { Gives result (left tokens.new) (each_at (line_at (scope_in scope.entry)) count [] (left tokens.old)) }
+    ensures source { source tokens.new ≡ source tokens.old }
 {
     let mut lines = Lines::new(alloc);
     'more: for k in 0..count {
@@ -95,7 +98,8 @@ pub fn read_body(
     scope: Scope<'_>,
     count: u32,
 ) -> Result<Lines, ParseError>
-    ensures { Gives result (left tokens.new) (body_at (scope_in scope.entry) count (left tokens.old)) }
+    ensures reads { Gives result (left tokens.new) (body_at (scope_in scope.entry) count (left tokens.old)) }
+    ensures source { source tokens.new ≡ source tokens.old }
 {
     let lines = read_lines(alloc, tokens, scope, count)?;
     let brace = tokens.take();

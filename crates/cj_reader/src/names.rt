@@ -3,7 +3,7 @@
 ghost use Rattle.std.specs.Prelude.{◌≡◌, ◌≤◌, ◌<◌, length, [], IfOk, OnOk};
 ghost use Rattle.std.specs.List.{list_any};
 ghost use Rattle.std.specs.Str.{bytes_eq};
-ghost use Rattle.cj_tokens.specs.Left.{left};
+ghost use Rattle.cj_tokens.specs.Left.{left, source};
 ghost use Rattle.cj_grammar.specs.Readers.{Gives, each_at};
 ghost use Rattle.cj_reader.specs.Known.{Grows};
 ghost use Rattle.cj_reader.specs.Reading.{name_at, next_name_at, names_at, others_at, one_more_at};
@@ -33,6 +33,7 @@ fn read_name(
     earlier: &[Name],
 ) -> Result<Name, ParseError>
     ensures reads { Gives result (left tokens.new) (name_at limit earlier.now (left tokens.old)) }
+    ensures source { source tokens.new ≡ source tokens.old }
     ensures few { OnOk result (length earlier.now < limit) }
 {
     let token = tokens.take();
@@ -50,6 +51,7 @@ fn add_name(
     names: &mut Names,
 ) -> Result<(), ParseError>
     ensures reads { Grows result names.new (left tokens.new) (one_more_at (name_at limit) names.old (left tokens.old)) }
+    ensures source { source tokens.new ≡ source tokens.old }
     ensures few { OnOk result (length names.new ≤ limit) }
 {
     let name = read_name(alloc, tokens, limit, names.items())?;
@@ -64,6 +66,7 @@ fn add_next(
     names: &mut Names,
 ) -> Result<(), ParseError>
     ensures reads { Grows result names.new (left tokens.new) (one_more_at (next_name_at limit) names.old (left tokens.old)) }
+    ensures source { source tokens.new ≡ source tokens.old }
     ensures few { OnOk result (length names.new ≤ limit) }
 {
     let _comma = tokens.take();
@@ -80,6 +83,7 @@ fn read_more(
 ) -> Result<Names, ParseError>
     requires { length names ≤ limit }
     ensures reads { Gives result (left tokens.new) (each_at (next_name_at limit) count names (left tokens.old)) }
+    ensures source { source tokens.new ≡ source tokens.old }
     ensures few { IfOk result (λ all. length all ≤ limit) }
 {
     'more: for k in 0..count {
@@ -101,6 +105,7 @@ pub fn read_names(
 ) -> Result<Names, ParseError>
     requires { length names ≤ limit }
     ensures reads { Gives result (left tokens.new) (names_at limit count names (left tokens.old)) }
+    ensures source { source tokens.new ≡ source tokens.old }
     ensures few { IfOk result (λ all. length all ≤ limit) }
 {
     if count == 0 {
@@ -119,6 +124,7 @@ pub fn read_others(
 ) -> Result<Names, ParseError>
     requires { length params ≤ MAX_REGS }
     ensures reads { Gives result (left tokens.new) (others_at params (left tokens.old)) }
+    ensures source { source tokens.new ≡ source tokens.old }
     ensures few { IfOk result (λ all. length all ≤ MAX_REGS) }
 {
     if tokens.is_at(Terminal::Semicolon) {

@@ -2,7 +2,7 @@
 
 ghost use Rattle.std.specs.Prelude.{◌≡◌, ◌<◌, length, option_copied, IfSome};
 ghost use Rattle.cj_tokens.specs.Seen.{seen};
-ghost use Rattle.cj_tokens.specs.Left.{left};
+ghost use Rattle.cj_tokens.specs.Left.{left, source};
 ghost use Rattle.cj_tokens.specs.Passing.{front};
 ghost use Rattle.cj_grammar.specs.Readers.{Found, Gives};
 ghost use Rattle.cj_reader.specs.Scopes.{name_place};
@@ -60,7 +60,8 @@ pub fn label(scope: Scope<'_>, token: Lexeme<'_>) -> Result<Label, ParseError>
 /// A mark and the label behind it.
 #[tactic(auto, unfolding(crate::specs::Reading::target_at))]
 pub fn read_target(tokens: &mut Tokens<'_>, scope: Scope<'_>) -> Result<Label, ParseError>
-    ensures { Gives result (left tokens.new) (target_at (scope_in scope.entry) (left tokens.old)) }
+    ensures reads { Gives result (left tokens.new) (target_at (scope_in scope.entry) (left tokens.old)) }
+    ensures source { source tokens.new ≡ source tokens.old }
 {
     let _mark = tokens.take();
     let number = tokens.take();
@@ -70,7 +71,8 @@ pub fn read_target(tokens: &mut Tokens<'_>, scope: Scope<'_>) -> Result<Label, P
 /// A register or a number.
 #[tactic(auto, unfolding(crate::specs::Reading::operand_at))]
 pub fn read_operand(tokens: &mut Tokens<'_>, scope: Scope<'_>) -> Result<Operand, ParseError>
-    ensures { Gives result (left tokens.new) (operand_at (scope_in scope.entry) (left tokens.old)) }
+    ensures reads { Gives result (left tokens.new) (operand_at (scope_in scope.entry) (left tokens.old)) }
+    ensures source { source tokens.new ≡ source tokens.old }
 {
     let token = tokens.take();
     if token.terminal == Terminal::Name {
@@ -84,7 +86,8 @@ pub fn read_operand(tokens: &mut Tokens<'_>, scope: Scope<'_>) -> Result<Operand
 /// A register and the `=` behind it.
 #[tactic(auto, unfolding(crate::specs::Reading::dest_at))]
 pub fn read_dest(tokens: &mut Tokens<'_>, scope: Scope<'_>) -> Result<Reg, ParseError>
-    ensures { Gives result (left tokens.new) (dest_at (scope_in scope.entry) (left tokens.old)) }
+    ensures reads { Gives result (left tokens.new) (dest_at (scope_in scope.entry) (left tokens.old)) }
+    ensures source { source tokens.new ≡ source tokens.old }
 {
     let name = tokens.take();
     let dest = register(scope, name)?;
@@ -95,7 +98,8 @@ pub fn read_dest(tokens: &mut Tokens<'_>, scope: Scope<'_>) -> Result<Reg, Parse
 /// An operand in brackets.
 #[tactic(auto, unfolding(crate::specs::Reading::address_at))]
 pub fn read_address(tokens: &mut Tokens<'_>, scope: Scope<'_>) -> Result<Operand, ParseError>
-    ensures { Gives result (left tokens.new) (address_at (scope_in scope.entry) (left tokens.old)) }
+    ensures reads { Gives result (left tokens.new) (address_at (scope_in scope.entry) (left tokens.old)) }
+    ensures source { source tokens.new ≡ source tokens.old }
 {
     let _bracket = tokens.take();
     let address = read_operand(tokens, scope)?;
@@ -105,8 +109,9 @@ pub fn read_address(tokens: &mut Tokens<'_>, scope: Scope<'_>) -> Result<Operand
 
 // What stands behind a first operand.
 fn read_rest(tokens: &mut Tokens<'_>, scope: Scope<'_>, first: Operand) -> Result<Expr, ParseError>
-    ensures { let ts = left tokens.old in
+    ensures reads { let ts = left tokens.old in
         Gives result (left tokens.new) (rest_at (scope_in scope.entry) first ts (operator_of (front ts).terminal)) }
+    ensures source { source tokens.new ≡ source tokens.old }
 {
     match operator_at(tokens.peek()) {
         None => Ok(Expr::Copy(first)),
@@ -121,7 +126,8 @@ fn read_rest(tokens: &mut Tokens<'_>, scope: Scope<'_>, first: Operand) -> Resul
 /// An expression.
 #[tactic(auto, unfolding(crate::specs::Reading::expr_at))]
 pub fn read_expr(tokens: &mut Tokens<'_>, scope: Scope<'_>) -> Result<Expr, ParseError>
-    ensures { Gives result (left tokens.new) (expr_at (scope_in scope.entry) (left tokens.old)) }
+    ensures reads { Gives result (left tokens.new) (expr_at (scope_in scope.entry) (left tokens.old)) }
+    ensures source { source tokens.new ≡ source tokens.old }
 {
     match tokens.peek() {
         Terminal::Neg => {

@@ -2,7 +2,7 @@
 
 ghost use Rattle.std.specs.Prelude.{◌≡◌, List, OnErr};
 ghost use Rattle.cj_tokens.specs.Ends.{HasOneEnd};
-ghost use Rattle.cj_tokens.specs.Left.{left};
+ghost use Rattle.cj_tokens.specs.Left.{left, source};
 ghost use Rattle.cj_tokens.specs.Lexemes.{Lexeme};
 ghost use Rattle.cj_grammar.specs.Shapes.{GoesPast, HasFunctions};
 ghost use Rattle.cj_grammar.specs.Readers.{Gives, reads};
@@ -17,7 +17,8 @@ use std::alloc::Global;
 
 #[tactic(auto, unfolding(crate::specs::Reading::program_at), using(crate::proofs::Known::functions_same))]
 fn read_all(alloc: Global, tokens: &mut Tokens<'_>) -> Result<Program, ParseError>
-    ensures { Gives result (left tokens.new) (program_at (left tokens.old)) }
+    ensures reads { Gives result (left tokens.new) (program_at (left tokens.old)) }
+    ensures source { source tokens.new ≡ source tokens.old }
 {
     let known = scan_functions(alloc, *tokens)?;
     let functions = read_functions(alloc, tokens, &known)?;
@@ -30,6 +31,7 @@ fn read_all(alloc: Global, tokens: &mut Tokens<'_>) -> Result<Program, ParseErro
 pub fn read_program(alloc: Global, tokens: &mut Tokens<'_>) -> Result<Checked, ParseError>
     requires { HasFunctions (left tokens.old) }
     ensures read { (rest : List Lexeme) (past : GoesPast (left tokens.old) rest) → Gives result (left tokens.new) (reads (program_offences past.tree) (program_of past.tree) rest) }
+    ensures source { source tokens.new ≡ source tokens.old }
     ensures end { HasOneEnd (left tokens.old) → HasOneEnd (left tokens.new) }
     ensures same { OnErr result (tokens.new ≡ tokens.old) }
 {

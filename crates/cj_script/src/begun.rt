@@ -2,7 +2,7 @@
 
 ghost use Rattle.std.specs.Prelude.{◌≡◌, ◌+◌, ◌≤◌, ◌++◌, List, pos, length, IfOk, OnOk};
 ghost use Rattle.cj_ir.specs.Texts.{is_name};
-ghost use Rattle.cj_tokens.specs.Left.{left};
+ghost use Rattle.cj_tokens.specs.Left.{left, source};
 ghost use Rattle.cj_tokens.specs.Seen.{seen};
 ghost use Rattle.cj_grammar.specs.Grammar.{Tree, leaves};
 ghost use Rattle.cj_grammar.specs.Readers.{Gives, reads};
@@ -24,6 +24,7 @@ use std::alloc::Global;
 fn read_numbers(alloc: Global, tokens: &mut Tokens<'_>) -> Result<Values, NoMemory>
     ensures numbers { IfOk result (λ numbers. numbers ≡ numbers_at (left tokens.old)) }
     ensures left { OnOk result (left tokens.new ≡ behind_numbers (left tokens.old)) }
+    ensures source { source tokens.new ≡ source tokens.old }
 {
     let mut numbers = Values::new(alloc);
     'numbers: while tokens.is_at(Terminal::Number) {
@@ -36,7 +37,8 @@ fn read_numbers(alloc: Global, tokens: &mut Tokens<'_>) -> Result<Values, NoMemo
 /// The cells behind `memory`, or as many as are usual where it does not stand there.
 #[tactic(auto, unfolding(crate::specs::Reading::cells_at))]
 fn read_cells(tokens: &mut Tokens<'_>) -> Result<u32, ParseError>
-    ensures { Gives result (left tokens.new) (cells_at (left tokens.old)) }
+    ensures gives { Gives result (left tokens.new) (cells_at (left tokens.old)) }
+    ensures source { source tokens.new ≡ source tokens.old }
 {
     if tokens.is_at(Terminal::Memory) {
         let _memory = tokens.take();
@@ -53,6 +55,7 @@ fn read_cells(tokens: &mut Tokens<'_>) -> Result<u32, ParseError>
 fn read_limit(tokens: &mut Tokens<'_>, spent: u32) -> Result<u32, ParseError>
     requires { spent ≤ 4000000 }
     ensures gives { Gives result (left tokens.new) (limit_at spent (left tokens.old)) }
+    ensures source { source tokens.new ≡ source tokens.old }
     ensures within { IfOk result (λ limit. spent + limit ≤ 4000000) }
 {
     let _limit = tokens.take();
@@ -72,6 +75,7 @@ pub fn read_run(
     requires few { length functions.now ≤ MAX_FUNCTIONS }
     requires spent { spent ≤ 4000000 }
     ensures gives { Gives result (left tokens.new) (begun_at functions.now spent (left tokens.old)) }
+    ensures source { source tokens.new ≡ source tokens.old }
     ensures within { IfOk result (λ call. spent + call.limit ≤ 4000000) }
 {
     let name = tokens.take();
@@ -105,6 +109,7 @@ pub fn read_begun(
     ensures meaning { (t : Tree begun) (rest : List Lexeme) → left tokens.old ≡ leaves begun t ++ rest →
         Gives result (left tokens.new) (reads (begun_offences functions.now (pos spent) t) (begun_of functions.now t) rest) }
     ensures gives { Gives result (left tokens.new) (begun_at functions.now spent (left tokens.old)) }
+    ensures source { source tokens.new ≡ source tokens.old }
     ensures fits { IfOk result (FitsCall functions.now) }
     ensures within { IfOk result (λ call. spent + call.limit ≤ 4000000) }
 {

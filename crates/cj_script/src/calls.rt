@@ -1,7 +1,7 @@
 //! The calls of a script.
 
 ghost use Rattle.std.specs.Prelude.{◌≡◌, ◌+◌, ◌≤◌, [], length, IfOk};
-ghost use Rattle.cj_tokens.specs.Left.{left};
+ghost use Rattle.cj_tokens.specs.Left.{left, source};
 ghost use Rattle.cj_grammar.specs.Readers.{Gives};
 ghost use Rattle.cj_script.specs.Reading.{limits, call_at, calls_at};
 
@@ -26,6 +26,7 @@ fn read_call(
     requires sum { limits earlier.now ≡ spent }
     requires spent { spent ≤ 4000000 }
     ensures gives { Gives result (left tokens.new) (call_at functions.now earlier.now (left tokens.old)) }
+    ensures source { source tokens.new ≡ source tokens.old }
     ensures within { IfOk result (λ call. spent + call.limit ≤ 4000000) }
 {
     let word = tokens.take();
@@ -43,7 +44,8 @@ pub fn read_calls(
     functions: &[Function],
 ) -> Result<ScriptCalls, ParseError>
     requires { length functions.now ≤ MAX_FUNCTIONS }
-    ensures { Gives result (left tokens.new) (calls_at functions.now [] (left tokens.old)) }
+    ensures gives { Gives result (left tokens.new) (calls_at functions.now [] (left tokens.old)) }
+    ensures source { source tokens.new ≡ source tokens.old }
 {
     let mut calls = ScriptCalls::new(alloc);
     let mut spent = 0;

@@ -1,7 +1,7 @@
 //! Scripts.
 
 ghost use Rattle.std.specs.Prelude.{◌≡◌, ◌≤◌, ◌∷◌, ◌++◌, List, length, true, All, IfOk, OnErr};
-ghost use Rattle.cj_tokens.specs.Left.{left};
+ghost use Rattle.cj_tokens.specs.Left.{left, source};
 ghost use Rattle.cj_tokens.specs.Lexemes.{Lexeme, is_terminal};
 ghost use Rattle.cj_tokens.specs.declared.terminal.Terminal.TheVariants.{End};
 ghost use Rattle.cj_grammar.specs.Grammar.{Tree, leaves};
@@ -27,7 +27,8 @@ fn read_lines(
 ) -> Result<Script, ParseError>
     requires few { length functions.now ≤ MAX_FUNCTIONS }
     requires short { All (λ f. length f.code ≤ MAX_LABELS) functions.now }
-    ensures { Gives result (left tokens.new) (script_at functions.now (left tokens.old)) }
+    ensures gives { Gives result (left tokens.new) (script_at functions.now (left tokens.old)) }
+    ensures source { source tokens.new ≡ source tokens.old }
 {
     let _calls = tokens.take();
     let setups = read_setups(alloc, tokens, functions)?;
@@ -44,6 +45,7 @@ pub fn read_script(
 ) -> Result<Script, ParseError>
     ensures meaning { (t : Tree script) (last : Lexeme) (rest : List Lexeme) → left tokens.old ≡ leaves script t ++ last ∷ rest → is_terminal End last ≡ true →
         Gives result (left tokens.new) (reads (script_offences checked.now t) (script_of checked.now t) (last ∷ rest)) }
+    ensures source { source tokens.new ≡ source tokens.old }
     ensures fits { IfOk result (FitsScript checked.now) }
     ensures same { OnErr result (tokens.new ≡ tokens.old) }
 {

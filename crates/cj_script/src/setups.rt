@@ -1,7 +1,7 @@
 //! The setups of a script.
 
 ghost use Rattle.std.specs.Prelude.{◌≡◌, ◌≤◌, [], length, All};
-ghost use Rattle.cj_tokens.specs.Left.{left};
+ghost use Rattle.cj_tokens.specs.Left.{left, source};
 ghost use Rattle.cj_tokens.specs.Passing.{behind};
 ghost use Rattle.cj_grammar.specs.Readers.{Gives};
 ghost use Rattle.cj_script.specs.Reading.{guess_at, cold_at, warm_at, setup_at, is_setup, edge_at, setups_at};
@@ -17,7 +17,8 @@ use std::alloc::Global;
 #[tactic(auto, unfolding(crate::specs::Reading::guess_at))]
 fn read_guess(tokens: &mut Tokens<'_>, functions: &[Function]) -> Result<Setup, ParseError>
     requires { length functions.now ≤ MAX_FUNCTIONS }
-    ensures { Gives result (left tokens.new) (guess_at functions.now (left tokens.old)) }
+    ensures gives { Gives result (left tokens.new) (guess_at functions.now (left tokens.old)) }
+    ensures source { source tokens.new ≡ source tokens.old }
 {
     let name = tokens.take();
     let parameter = tokens.take();
@@ -34,6 +35,7 @@ fn read_guess(tokens: &mut Tokens<'_>, functions: &[Function]) -> Result<Setup, 
 fn read_edge(tokens: &mut Tokens<'_>) -> Edge
     ensures edge { result ≡ edge_at (left tokens.old) }
     ensures left { left tokens.new ≡ behind (left tokens.old) }
+    ensures source { source tokens.new ≡ source tokens.old }
 {
     let edge = if tokens.is_at(Terminal::Then) {
         Edge::Then
@@ -49,7 +51,8 @@ fn read_edge(tokens: &mut Tokens<'_>) -> Edge
 fn read_cold(tokens: &mut Tokens<'_>, functions: &[Function]) -> Result<Setup, ParseError>
     requires few { length functions.now ≤ MAX_FUNCTIONS }
     requires short { All (λ f. length f.code ≤ MAX_LABELS) functions.now }
-    ensures { Gives result (left tokens.new) (cold_at functions.now (left tokens.old)) }
+    ensures gives { Gives result (left tokens.new) (cold_at functions.now (left tokens.old)) }
+    ensures source { source tokens.new ≡ source tokens.old }
 {
     let name = tokens.take();
     let number = tokens.take();
@@ -67,7 +70,8 @@ fn read_cold(tokens: &mut Tokens<'_>, functions: &[Function]) -> Result<Setup, P
 #[tactic(auto, unfolding(crate::specs::Reading::warm_at))]
 fn read_warm(tokens: &mut Tokens<'_>, functions: &[Function]) -> Result<Setup, ParseError>
     requires { length functions.now ≤ MAX_FUNCTIONS }
-    ensures { Gives result (left tokens.new) (warm_at functions.now (left tokens.old)) }
+    ensures gives { Gives result (left tokens.new) (warm_at functions.now (left tokens.old)) }
+    ensures source { source tokens.new ≡ source tokens.old }
 {
     let name = tokens.take();
     let level = tokens.take();
@@ -84,7 +88,8 @@ fn read_warm(tokens: &mut Tokens<'_>, functions: &[Function]) -> Result<Setup, P
 fn read_setup(tokens: &mut Tokens<'_>, functions: &[Function]) -> Result<Setup, ParseError>
     requires few { length functions.now ≤ MAX_FUNCTIONS }
     requires short { All (λ f. length f.code ≤ MAX_LABELS) functions.now }
-    ensures { Gives result (left tokens.new) (setup_at functions.now (left tokens.old)) }
+    ensures gives { Gives result (left tokens.new) (setup_at functions.now (left tokens.old)) }
+    ensures source { source tokens.new ≡ source tokens.old }
 {
     if tokens.is_at(Terminal::Guess) {
         let _word = tokens.take();
@@ -114,7 +119,8 @@ pub fn read_setups(
 ) -> Result<Setups, ParseError>
     requires few { length functions.now ≤ MAX_FUNCTIONS }
     requires short { All (λ f. length f.code ≤ MAX_LABELS) functions.now }
-    ensures { Gives result (left tokens.new) (setups_at functions.now [] (left tokens.old)) }
+    ensures gives { Gives result (left tokens.new) (setups_at functions.now [] (left tokens.old)) }
+    ensures source { source tokens.new ≡ source tokens.old }
 {
     let mut setups = Setups::new(alloc);
     'setups: while is_setup(tokens) {

@@ -5,6 +5,7 @@ pub mod Numbered
 pub mod Tables
 pub mod Found
 pub mod Steps
+pub mod Places
 pub mod EndsLaws
 pub mod Again
 pub mod Longest

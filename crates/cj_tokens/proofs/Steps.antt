@@ -30,12 +30,16 @@ unfolding items_from front behind
 pass_fit true bytes t s rest n e r = cc
 pass_fit false bytes t s rest n e r = rw (e, r) refl
 
+pub pass_taken : (taken : Bool) (bytes : List ℕ) (t : Item) (s : Sign) → taken ≡ true → pass s (view taken bytes t) ≡ Err (view taken bytes t)
+pass_taken true bytes t s e = refl
+pass_taken false bytes t s e = cc
+
 pub pass_unfit : (ts : List Lexeme) (s : Sign) → fits s (front ts) ≡ false → pass s ts ≡ Err ts
 unfolding front
 pass_unfit [] s e = refl
 pass_unfit (t ∷ ts) s e = rw e refl
 
-passed_no_end : (k : Terminal) → is_passed k ≡ true → nat_eq (number_of k) 0 ≡ false
+pub passed_no_end : (k : Terminal) → is_passed k ≡ true → nat_eq (number_of k) 0 ≡ false
 passed_no_end End h = cc
 passed_no_end BadCharacter h = cc
 passed_no_end BadNumber h = cc

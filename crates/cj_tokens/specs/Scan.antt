@@ -1,5 +1,5 @@
 -- The tokens of the bytes of a text.
-use Rattle.std.specs.Prelude.{ℕ, zero, suc, ◌+◌, ◌-◌, min, Bool, cond, not, ◌||◌, ◌&&◌, List, [], ◌∷◌, map, take, drop}
+use Rattle.std.specs.Prelude.{◌≡◌, ℕ, zero, suc, ◌+◌, ◌-◌, min, Bool, cond, not, ◌||◌, ◌&&◌, List, [], ◌∷◌, map, take, drop, length}
 use Rattle.std.specs.Char.{is_ascii_digit}
 use Rattle.std.specs.List.{prefix_len}
 use Rattle.cj_ir.specs.Texts.{is_letter, is_letter_or_digit, is_text_byte}
@@ -52,6 +52,14 @@ items_from bytes t = t ∷ cond (is_terminal End t.lexeme) [] (items 0 t.lexeme.
 -- the tokens of a text with their places, the end last
 abbrev pub items_of : List ℕ → List Item
 items_of bytes = items 0 1 0 bytes
+
+-- the last tokens of a text, so many of them
+abbrev pub last_items : ℕ → List ℕ → List Item
+last_items count bytes = drop (length (items_of bytes) - count) (items_of bytes)
+
+-- It is a token of the text: with those behind it, it ends the tokens of the text.
+abbrev pub IsToken : List ℕ → Item → Type 0
+IsToken bytes t = items_from bytes t ≡ last_items (length (items_from bytes t)) bytes
 
 abbrev pub lexeme_in : Item → Lexeme
 lexeme_in item = item.lexeme

@@ -1,8 +1,11 @@
 //! The tokens of a text, read from its bytes as they are asked for.
 
 ghost use Rattle.std.specs.Prelude.{◌≡◌, ◌≤◌, length, true};
+ghost use Rattle.cj_tokens.specs.Lexemes.{is_terminal};
+ghost use Rattle.cj_tokens.specs.Scan.{IsToken};
 ghost use Rattle.cj_tokens.specs.Words.{is_well};
-ghost use Rattle.cj_tokens.specs.Seen.{seen};
+ghost use Rattle.cj_tokens.specs.Seen.{seen, placed};
+ghost use Rattle.cj_tokens.specs.declared.terminal.Terminal.TheVariants.{End};
 
 use crate::lexeme::{Lexeme, Scanned};
 use crate::piece::{Token, given, is_passed};
@@ -11,7 +14,7 @@ use crate::scan::scan;
 use crate::terminal::Terminal;
 
 /// What is left of a text's tokens: `left` in contracts, a list of which the last is the end, and which is empty
-/// once the end is taken. It takes no memory.
+/// once the end is taken. `source` is the text. It takes no memory.
 #[derive(Clone, Copy, Debug)]
 pub struct Tokens<'a> {
     bytes: &'a [u8],
@@ -19,6 +22,8 @@ pub struct Tokens<'a> {
     is_past_end: bool,
     ghost within: { ahead.stop ≤ length bytes.now },
     ghost well: { is_well (seen ahead.lexeme) ≡ true },
+    ghost token: { IsToken bytes.now (placed ahead) },
+    ghost end: { is_past_end ≡ true → is_terminal End (seen ahead.lexeme) ≡ true },
 }
 
 /// The next token is another than was asked for.
@@ -34,15 +39,17 @@ impl<'a> Tokens<'a> {
     ghost use Rattle.cj_tokens.specs.Passing.{front, behind, pass, ended};
     ghost use Rattle.cj_tokens.specs.Scan.{items_of, lexemes_of, items, items_from};
     ghost use Rattle.cj_tokens.specs.Seen.{seen, placed};
-    ghost use Rattle.cj_tokens.specs.Left.{left, stream};
+    ghost use Rattle.cj_tokens.specs.Left.{left, source, stream};
     ghost use Rattle.cj_tokens.specs.Words.{is_free_word, is_well};
     ghost use Rattle.cj_tokens.specs.Pieces.{next_of, past_items, past_lexemes};
     ghost use Rattle.cj_tokens.specs.declared.terminal.Terminal.TheVariants.{Name, Text};
 
     /// The tokens of a text of those bytes.
+    #[tactic(auto, unfolding(crate::specs::Left::source))]
     pub fn of(bytes: &'a [u8]) -> Tokens<'a>
         ensures stream { stream result ≡ items_of bytes.now }
         ensures left { left result ≡ lexemes_of bytes.now }
+        ensures source { source result ≡ bytes.now }
         ensures end { HasOneEnd (lexemes_of bytes.now) }
     {
         Tokens {
@@ -97,9 +104,11 @@ impl<'a> Tokens<'a> {
     }
 
     /// Takes the next token. Once the end is taken: an end in line 0.
+    #[tactic(auto, unfolding(crate::specs::Left::source))]
     pub fn take(&mut self) -> Lexeme<'a>
         ensures token { seen result ≡ front (left self.old) }
         ensures left { left self.new ≡ behind (left self.old) }
+        ensures source { source self.new ≡ source self.old }
         ensures name { result.terminal ≡ Name → is_free_word result.text.now ≡ true }
         ensures text { result.terminal ≡ Text → list_all is_text_byte result.text.now ≡ true }
     {
@@ -116,6 +125,7 @@ impl<'a> Tokens<'a> {
     /// is taken then.
     pub fn expect(&mut self, terminal: Terminal) -> Result<(), Unfit>
         ensures taken { pass (Is terminal) (left self.old) ≡ ended result (left self.new) }
+        ensures source { source self.new ≡ source self.old }
         ensures same { OnErr result (self.new ≡ self.old) }
     {
         if self.is_past_end {
@@ -130,10 +140,12 @@ impl<'a> Tokens<'a> {
 
     /// The next token; goes past it, unless it is the end, which is given each time. Refused: exactly where a
     /// Character or Number offence stands next, and the tokens stay as they were.
+    #[tactic(auto, unfolding(crate::specs::Left::source))]
     pub fn next(&mut self) -> Result<Token, Refused>
         ensures answer { result ≡ next_of (stream self.old) }
         ensures stream { stream self.new ≡ past_items (stream self.old) }
         ensures left { left self.new ≡ past_lexemes (left self.old) }
+        ensures source { source self.new ≡ source self.old }
         ensures end { HasOneEnd (left self.old) → HasOneEnd (left self.new) }
         ensures same { OnErr result (self.new ≡ self.old) }
     {

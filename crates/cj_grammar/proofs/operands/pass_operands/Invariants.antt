@@ -1,11 +1,15 @@
 use Rattle.std.proofs.Common.{◌≡◌, length}
-use Rattle.cj_tokens.specs.Left.{left}
+use Rattle.cj_tokens.specs.Left.{left, source}
 use Rattle.cj_grammar.specs.OneAhead.{eat}
 use Rattle.cj_grammar.specs.Rules.{more_operands, operands}
 use Rattle.cj_grammar.proofs.operands.pass_operands.Given as goal
 
 abbrev pub invariant-more : goal.invariant-more
-invariant-more l = eat operands (left l.fn.tokens) ≡ eat more_operands (left l.tokens)
+invariant-more l =
+    record {
+      passes : eat operands (left l.fn.tokens) ≡ eat more_operands (left l.tokens);
+      source : source l.tokens ≡ source l.fn.tokens;
+    }
 
 abbrev pub decreases-more : goal.decreases-more
 decreases-more l = length (left l.tokens)

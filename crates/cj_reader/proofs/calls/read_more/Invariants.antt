@@ -1,9 +1,13 @@
 use Rattle.std.proofs.Common.{◌≡◌, ◌-◌}
-use Rattle.cj_tokens.specs.Left.{left}
+use Rattle.cj_tokens.specs.Left.{left, source}
 use Rattle.cj_grammar.specs.Readers.{each_at}
 use Rattle.cj_reader.specs.Known.{scope_in}
 use Rattle.cj_reader.specs.Reading.{next_operand_at}
 use Rattle.cj_reader.proofs.calls.read_more.Given as goal
 
 abbrev pub invariant-more : goal.invariant-more
-invariant-more l = each_at (next_operand_at (scope_in l.scope)) l.count l.fn.operands (left l.fn.tokens) ≡ each_at (next_operand_at (scope_in l.scope)) (l.count - l.k) l.operands (left l.tokens)
+invariant-more l =
+    record {
+      reads : each_at (next_operand_at (scope_in l.scope)) l.count l.fn.operands (left l.fn.tokens) ≡ each_at (next_operand_at (scope_in l.scope)) (l.count - l.k) l.operands (left l.tokens);
+      source : source l.tokens ≡ source l.fn.tokens;
+    }

@@ -8,15 +8,15 @@ use Rattle.cj_reader.proofs.program.read_program.Goals as goal
 
 pub returns-in-Err-clause-read : goal.returns-in-Err-clause-read
 returns-in-Err-clause-read c = λ rest past.
-    subst (λ (r : Read Program). Fails c.in-Err.error r) (program_is (left c.args.tokens.now) rest past) c.in-Err.ensures
+    subst (λ (r : Read Program). Fails c.in-Err.error r) (program_is (left c.args.tokens.now) rest past) c.in-Err.ensures.reads
 
 pub adopt-requires : goal.adopt-requires
 adopt-requires c =
-    read_fine (left c.args.tokens.now) c.in-Ok.program (left c.read_all.new.tokens) c.requires c.in-Ok.ensures
+    read_fine (left c.args.tokens.now) c.in-Ok.program (left c.read_all.new.tokens) c.requires c.in-Ok.ensures.reads
 
 pub returns-clause-read : goal.returns-clause-read
 returns-clause-read c = λ rest past.
-    sym (program_is (left c.args.tokens.now) rest past) ∙ (c.in-Ok.ensures ∙ ap (λ (p : Program). let r : Read Program = Ok (p, left c.read_all.new.tokens) in r) (sym c.adopt.ensures))
+    sym (program_is (left c.args.tokens.now) rest past) ∙ (c.in-Ok.ensures.reads ∙ ap (λ (p : Program). let r : Read Program = Ok (p, left c.read_all.new.tokens) in r) (sym c.adopt.ensures))
 
 pub returns-clause-end : goal.returns-clause-end
-returns-clause-end c = end_behind (left c.args.tokens.now) c.in-Ok.program (left c.read_all.new.tokens) c.requires c.in-Ok.ensures
+returns-clause-end c = end_behind (left c.args.tokens.now) c.in-Ok.program (left c.read_all.new.tokens) c.requires c.in-Ok.ensures.reads

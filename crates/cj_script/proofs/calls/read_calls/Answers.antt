@@ -16,6 +16,7 @@ calls-preserved c =
     let all : limits (c.calls.calls ++ c.in-Ok.call ∷ []) ≡ limits c.calls.calls + c.in-Ok.call.limit = limits_more c.calls.calls c.in-Ok.call in
     record {
       same = c.calls.invariant.same ∙ rw more (calls_turn c.args.functions.now c.calls.calls (left c.calls.tokens) (left c.read_call.new.tokens) c.in-Ok.call here read);
+      source = c.in-Ok.ensures.source ∙ c.calls.invariant.source;
       sum = rw (more, all, c.calls.invariant.sum) refl;
       spent = c.in-Ok.ensures.within;
     }

@@ -1,5 +1,5 @@
 use Rattle.std.proofs.Common.{◌≡◌, ◌≤◌, length, []}
-use Rattle.cj_tokens.specs.Left.{left}
+use Rattle.cj_tokens.specs.Left.{left, source}
 use Rattle.cj_script.specs.Reading.{limits, calls_at}
 use Rattle.cj_script.proofs.calls.read_calls.Given as goal
 
@@ -7,6 +7,7 @@ abbrev pub invariant-calls : goal.invariant-calls
 invariant-calls l =
     record {
       same : calls_at l.functions [] (left l.fn.tokens) ≡ calls_at l.functions l.calls (left l.tokens);
+      source : source l.tokens ≡ source l.fn.tokens;
       sum : limits l.calls ≡ l.spent;
       spent : l.spent ≤ 4000000;
     }

@@ -1,9 +1,23 @@
-use Rattle.std.proofs.Common.{◌∙◌, sym, subst}
+use Rattle.std.proofs.Common.{◌≡◌, true, ◌∙◌, sym, subst}
 use Rattle.cj_tokens.specs.Ends.{HasOneEnd}
 use Rattle.cj_tokens.specs.Left.{left, stream}
+use Rattle.cj_tokens.specs.Pieces.{is_passed}
+use Rattle.cj_tokens.specs.Scan.{Item}
 use Rattle.cj_tokens.specs.Seen.{placed}
-use Rattle.cj_tokens.proofs.Steps.{given_passed, given_stays, left_past, next_is, past_end}
+use Rattle.cj_tokens.proofs.Places.{next_token, passed_not_taken, not_taken}
+use Rattle.cj_tokens.proofs.Steps.{given_passed, given_stays, left_past, next_is, past_end, passed_no_end}
 use Rattle.cj_tokens.proofs.tokens.Tokens.next.Goals as goal
+
+pub invariant_of-self : goal.invariant_of-self
+invariant_of-self c =
+    let t : Item = placed c.args.self.now.ahead in
+    let p : is_passed t.lexeme.terminal ≡ true = sym c.is_passed.ensures ∙ c.if-is_passed.true in
+    record {
+      within = c.behind-self.ensures.within;
+      well = c.behind-self.ensures.well;
+      token = next_token c.args.self.now.bytes.now t (placed c.behind-self.result) (passed_no_end t.lexeme.terminal p) c.behind-self.ensures.found c.args.self.now.token;
+      end = not_taken c.args.self.now.is_past_end (passed_not_taken c.args.self.now.is_past_end t c.args.self.now.end p);
+    }
 
 pub returns-then-is_passed-clause-answer : goal.returns-then-is_passed-clause-answer
 unfolding stream
