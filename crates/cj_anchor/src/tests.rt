@@ -2,8 +2,8 @@
 
 use super::insert_anchors;
 use cj_draft::{Code, Draft, Room, Skipped, VInstr};
-use cj_ir::samples::{alone, jump};
 use cj_ir::{Checked, FunId, Label, Labels};
+use cj_samples::{alone, jump};
 use std::alloc::Global;
 use std::process::Abort;
 use std::test::Fail;

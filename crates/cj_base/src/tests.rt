@@ -4,13 +4,11 @@ ghost use Rattle.std.specs.Prelude.{◌≡◌, true};
 ghost use Rattle.cj_ir.specs.WellFormed.{Takes};
 
 use super::*;
-use cj_ir::samples::{
-    N, R, alone, call, call_of_first, cond, function, increment, lines, op, print,
-};
 use cj_ir::{
     Checked, Duplicate, Expr, FunId, Functions, Instr, Label, Operand, Program, Reg, ScriptCall,
     Text, Values, check,
 };
+use cj_samples::{N, R, alone, call, call_of_first, cond, function, increment, lines, op, print};
 use std::alloc::Global;
 use std::process::Abort;
 use std::test::Fail;

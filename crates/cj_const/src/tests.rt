@@ -4,10 +4,10 @@ mod by_hand;
 
 use super::{fold, strongest};
 use cj_draft::{Code, Draft, Fact, FactTable, Facts, VInstr};
-use cj_ir::samples::{N, R, cond, function, lines, op};
 use cj_ir::{
     Checked, Expr, FunId, Functions, Instr, Label, Lines, NoMemory, Operand, Program, Reg, check,
 };
+use cj_samples::{N, R, cond, function, lines, op};
 use std::alloc::Global;
 use std::process::Abort;
 use std::test::Fail;

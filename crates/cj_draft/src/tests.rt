@@ -5,8 +5,8 @@ ghost use Rattle.cj_ir.specs.Values.{IsOperandWithin};
 ghost use Rattle.cj_draft.specs.Points.{IsPointWithin};
 
 use super::*;
-use cj_ir::samples::{N, R, alone, increment, list};
 use cj_ir::{Checked, Duplicate, FunId, Label, Operand, Reg};
+use cj_samples::{N, R, alone, increment, list};
 use std::alloc::Global;
 use std::process::Abort;
 use std::test::Fail;

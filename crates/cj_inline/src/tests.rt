@@ -4,10 +4,10 @@ ghost use Rattle.std.specs.Prelude.{◌≡◌, [], IfOk};
 
 use super::{called_at, inline};
 use cj_draft::{Code, Draft, Pair, Skipped, VInstr};
-use cj_ir::samples::{N, R, call, cond, function, lines, name, op, print};
 use cj_ir::{
     Checked, Expr, FunId, Functions, Instr, Label, Lines, NoMemory, Operand, Program, Reg, check,
 };
+use cj_samples::{N, R, call, cond, function, lines, name, op, print};
 use std::alloc::Global;
 use std::process::Abort;
 use std::test::Fail;

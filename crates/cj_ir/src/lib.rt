@@ -6,7 +6,6 @@ pub mod duplicate;
 pub mod language;
 pub mod limits;
 pub mod memory;
-pub mod samples;
 pub mod script;
 pub mod sequence;
 #[cfg(test)]

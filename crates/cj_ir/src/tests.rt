@@ -1,10 +1,11 @@
 //! Worked values, names and programs.
 
-use super::samples::{R, alone, constant_zero, double, increment, jump, print, recursion};
 use super::*;
 use std::alloc::Global;
 use std::process::Abort;
 use std::test::Fail;
+
+const R: Operand = Operand::Reg(Reg(1));
 
 fn is_shared<T: Send + Sync>(_value: &T) {}
 
@@ -40,7 +41,10 @@ fn code_of(alloc: Global, name: u32, instr: Instr) -> Result<Lines, NoMemory> {
     code.push(Line { name, instr })?;
     code.push(Line {
         name: 2,
-        instr: print(R, 2),
+        instr: Instr::Print {
+            value: R,
+            next: Label(2),
+        },
     })?;
     code.push(Line {
         name: 3,
@@ -172,28 +176,6 @@ fn a_program_is_checked_or_its_first_fault_is_told(rt: HostRuntime) -> Result<()
         first_fault(Program { functions }),
         Some((0, 0, Fault::NoEntry))
     );
-    Ok(())
-}
-
-// Whether a function is well-formed alone, and has so many lines.
-fn has_lines(function: Function, count: usize) -> bool {
-    match alone(function) {
-        Ok(checked) => match checked.program().functions.items() {
-            [function] => function.code.items().len() == count,
-            _ => false,
-        },
-        Err(_) => false,
-    }
-}
-
-#[test]
-fn samples_are_well_formed(rt: HostRuntime) -> Result<(), Fail> {
-    let alloc = rt.alloc();
-    assert!(rt; has_lines(increment(alloc)?, 3));
-    assert!(rt; has_lines(double(alloc)?, 3));
-    assert!(rt; has_lines(recursion(alloc)?, 4));
-    assert!(rt; has_lines(jump(alloc)?, 3));
-    assert!(rt; has_lines(constant_zero(alloc, "zero")?, 1));
     Ok(())
 }
 

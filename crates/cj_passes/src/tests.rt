@@ -4,8 +4,8 @@ mod lowered;
 
 use crate::pipeline;
 use cj_draft::{Pass, Passes, Skipped, Skips};
-use cj_ir::samples::{alone, increment, list};
 use cj_ir::{FunId, Guard, Label};
+use cj_samples::{alone, increment, list};
 use std::alloc::Global;
 use std::process::Abort;
 use std::test::Fail;

@@ -5,11 +5,11 @@ ghost use Rattle.cj_profile.specs.Snapshots.{FitsFunction};
 
 use super::plan;
 use cj_draft::{Pass, Passes};
-use cj_ir::samples::{N, R, call, cond, function, increment, lines};
 use cj_ir::{
     Checked, FunId, Functions, Guard, Instr, Labels, Lines, NoMemory, Program, Reg, check,
 };
 use cj_profile::{EdgeNote, EdgeNotes, ParamNote, ParamNotes, Snapshot};
+use cj_samples::{N, R, call, cond, function, increment, lines};
 use std::alloc::Global;
 use std::process::Abort;
 use std::test::Fail;

@@ -5,8 +5,8 @@ ghost use Rattle.cj_profile.specs.Seats.{program_of, Belongs};
 ghost use Rattle.cj_profile.specs.Worked.{IsIncrement};
 
 use super::{EdgeNote, JobAnswer, ParamNote, Profile, ProfileSeat};
-use cj_ir::samples::{alone, increment};
 use cj_ir::{Checked, Edge, FunId, Label};
+use cj_samples::{alone, increment};
 use std::alloc::Global;
 use std::process::Abort;
 use std::test::Fail;

@@ -14,8 +14,8 @@ mod crowd;
 
 use super::*;
 use cj_draft::{Code, Draft, Place, VInstr, Version};
-use cj_ir::samples::{alone, constant_zero};
 use cj_ir::{Checked, FunId};
+use cj_samples::{alone, constant_zero};
 use cj_spelling::laws::named_code_is_in_range;
 use cj_spelling::{Words, encode};
 use std::alloc::Global;

@@ -1,11 +1,11 @@
 //! Scripts behind a program of two functions.
 
 use crate::{read_begun, read_script};
-use cj_ir::samples::{N, R, cond, constant_zero, name, names};
 use cj_ir::{
     Checked, Edge, FunId, Function, Functions, Instr, Label, Line, Lines, Operand, Program, Reg,
     Setup, check,
 };
+use cj_samples::{N, R, cond, constant_zero, name, names};
 use cj_tokens::{Kind, ParseError, Refused, Terminal, Tokens};
 use std::alloc::Global;
 use std::test::Fail;

@@ -6,10 +6,10 @@ ghost use Rattle.cj_draft.specs.Bodies.{IsNoAnchor, HasNoAnchors};
 use super::*;
 use crate::laws::named_code_is_in_range;
 use cj_draft::{Code, Draft, Frames, Pair, Pairs, Place, Point, PointFrame, VInstr, Version};
-use cj_ir::samples::{alone, constant_zero};
 use cj_ir::{
     Checked, Expr, FunId, Guard, Guards, Label, NoMemory, Operand, Operands, Reg, Sequence,
 };
+use cj_samples::{alone, constant_zero};
 use std::alloc::Global;
 use std::process::Abort;
 use std::test::Fail;

@@ -8,11 +8,11 @@ ghost use Rattle.cj_worker.specs.Workers.{program_in, IsReady};
 
 use super::Worker;
 use cj_io::OpenGate;
-use cj_ir::samples::{alone, constant_zero, double as doubling};
 use cj_ir::{Checked, FunId};
 use cj_notes::WorkNote;
 use cj_profile::{ParamNote, Profile, ProfileSeat, Snapshot};
 use cj_publish::{CodeSeat, CodeTable};
+use cj_samples::{alone, constant_zero, double as doubling};
 use std::alloc::Global;
 use std::process::Abort;
 use std::sync::Wait;

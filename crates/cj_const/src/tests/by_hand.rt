@@ -15,10 +15,10 @@ use cj_draft::laws::base_body_is_sound;
 use cj_draft::{
     Backs, Code, Draft, Fact, FactList, FactTable, Facts, Pair, Pairs, Place, Places, Point, VInstr,
 };
-use cj_ir::samples::{alone, function, lines};
 use cj_ir::{
     Checked, Duplicate, Expr, FunId, Function, Guard, Guards, Instr, Label, NoMemory, Operand, Reg,
 };
+use cj_samples::{alone, function, lines};
 use std::alloc::Global;
 use std::process::Abort;
 use std::test::Fail;

@@ -3,8 +3,8 @@
 use crate::lower;
 use cj_anchor::insert_anchors;
 use cj_draft::{Code, Draft, VInstr};
-use cj_ir::samples::{alone, increment, jump};
 use cj_ir::{Checked, FunId, Label, Labels};
+use cj_samples::{alone, increment, jump};
 use std::alloc::Global;
 use std::process::Abort;
 use std::test::Fail;

@@ -10,8 +10,8 @@ ghost use Rattle.cj_publish.specs.Fetched.{main_of};
 
 use super::{MAIN, base_words};
 use crate::*;
-use cj_ir::samples::constant_zero;
 use cj_ir::{Checked, FunId, Functions, NoMemory, Program, check};
+use cj_samples::constant_zero;
 use cj_spelling::encode;
 use cj_spelling::laws::named_code_is_in_range;
 use std::alloc::Global;

@@ -1,5 +1,5 @@
 use Rattle.std.proofs.Common.{◌≡◌, take}
-use Rattle.cj_ir.proofs.samples.list.Given as goal
+use Rattle.cj_samples.proofs.list.Given as goal
 
 abbrev pub invariant-loop-item : goal.invariant-loop-item
 invariant-loop-item g l = l.list ≡ take l.item-index l.items

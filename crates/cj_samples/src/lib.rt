@@ -1,20 +1,19 @@
-//! Small programs that tests here and above are about, and the parts that such programs are put together from.
+//! Small programs that tests are about, and the parts that such programs are put together from.
+#![tactic(auto)]
 
-ghost use Rattle.std.specs.Prelude.{◌≡◌, [], ◌∷◌, length, map, All, IfOk, IsTrue};
+ghost use Rattle.std.specs.Prelude.{◌≡◌, [], ◌∷◌, map, All, IfOk, IsTrue, pos};
 ghost use Rattle.cj_ir.specs.Texts.{is_name};
-ghost use Rattle.cj_ir.specs.declared.language.Instr.TheVariants.{Op, Cond, Print};
+ghost use Rattle.cj_ir.specs.declared.language.Instr.TheVariants.{Op, Cond, Call, Print};
+ghost use Rattle.cj_samples.specs.Samples.{lines_of, function_of, increment, constant_zero, double, recursion, jump};
 
-use crate::checker::{CheckError, Checked, check};
-use crate::duplicate::Duplicate;
-use crate::language::{
-    Expr, FunId, Function, Functions, Instr, Label, Line, Lines, Names, Operand, Operands, Program,
-    Reg,
+use cj_ir::{
+    CheckError, Checked, Duplicate, Expr, FunId, Function, Functions, Instr, Label, Line, Lines,
+    Name, Names, NoMemory, Operand, Program, Reg, ScriptCall, Sequence, check,
 };
-use crate::memory::NoMemory;
-use crate::script::ScriptCall;
-use crate::sequence::Sequence;
-use crate::texts::Name;
 use std::alloc::Global;
+
+#[cfg(test)]
+mod tests;
 
 /// The parameter of a sample.
 pub const N: Operand = Operand::Reg(Reg(0));
@@ -56,9 +55,10 @@ pub fn names(alloc: Global, words: &[&str]) -> Result<Names, NoMemory>
     Ok(names)
 }
 
-/// The lines of those instructions, whose labels have the numbers 1, 2 and on.
+/// The lines of those instructions, whose labels have the numbers 1, 2 and on, modulo 2^32.
+#[tactic(auto, using(crate::proofs::SampleLemmas::lines_of_append))]
 pub fn lines(alloc: Global, instrs: Vec<Instr>) -> Result<Lines, NoMemory>
-    ensures { IfOk result (λ lines. map (λ line. line.instr) lines ≡ instrs.items) }
+    ensures { IfOk result (λ lines. lines ≡ lines_of instrs.items) }
 {
     let mut lines = Lines::new(alloc);
     let mut name = 0u32;
@@ -70,11 +70,10 @@ pub fn lines(alloc: Global, instrs: Vec<Instr>) -> Result<Lines, NoMemory>
 }
 
 /// A function of one parameter, `n`, and one more register, `r`.
+#[tactic(auto, unfolding(crate::specs::Samples::function_of))]
 pub fn function(alloc: Global, word: &str, code: Lines) -> Result<Function, NoMemory>
     requires { IsTrue (is_name word.now) }
-    ensures name { IfOk result (λ f. f.name ≡ word.now) }
-    ensures registers { IfOk result (λ f. (f.params ≡ 1) × (length f.regs ≡ 2)) }
-    ensures code { IfOk result (λ f. f.code ≡ code) }
+    ensures { IfOk result (λ f. f ≡ function_of word.now code) }
 {
     Ok(Function {
         name: name(alloc, word)?,
@@ -128,7 +127,9 @@ pub fn print(value: Operand, next: u32) -> Instr
 }
 
 /// A call with one argument, whose value goes to `r`.
-pub fn call(alloc: Global, function: u32, argument: Operand, next: u32) -> Result<Instr, NoMemory> {
+pub fn call(alloc: Global, function: u32, argument: Operand, next: u32) -> Result<Instr, NoMemory>
+    ensures { IfOk result (λ call. call ≡ Call (record { 0 = 1 }) (record { 0 = function }) (argument ∷ []) (record { 0 = next })) }
+{
     Ok(Instr::Call {
         dest: Reg(1),
         function: FunId(function),
@@ -138,15 +139,20 @@ pub fn call(alloc: Global, function: u32, argument: Operand, next: u32) -> Resul
 }
 
 /// `fun main(n; r) { 1: op r = n + 1 -> 2   2: print r -> 3   3: return r }`
-pub fn increment(alloc: Global) -> Result<Function, NoMemory> {
+#[tactic(auto, unfolding(crate::specs::Samples::increment, crate::specs::Samples::function_of))]
+pub fn increment(alloc: Global) -> Result<Function, NoMemory>
+    ensures { IfOk result (λ f. f ≡ increment) }
+{
     let sum = Expr::Add(N, Operand::Const(1));
     let instrs = vec![in alloc; op(sum, 1), print(R, 2), Instr::Return { value: R }]?;
     function(alloc, "main", lines(alloc, instrs)?)
 }
 
 /// `fun NAME() { 1: return 0 }`
+#[tactic(auto, unfolding(crate::specs::Samples::constant_zero, crate::specs::Samples::function_without_registers))]
 pub fn constant_zero(alloc: Global, word: &str) -> Result<Function, NoMemory>
     requires { IsTrue (is_name word.now) }
+    ensures { IfOk result (λ f. f ≡ constant_zero word.now) }
 {
     let value = Operand::Const(0);
     let instrs = vec![in alloc; Instr::Return { value }]?;
@@ -159,14 +165,20 @@ pub fn constant_zero(alloc: Global, word: &str) -> Result<Function, NoMemory>
 }
 
 /// `fun main(n; r) { 1: op r = n * 2 -> 2   2: print r -> 3   3: return r }`
-pub fn double(alloc: Global) -> Result<Function, NoMemory> {
+#[tactic(auto, unfolding(crate::specs::Samples::double, crate::specs::Samples::function_of))]
+pub fn double(alloc: Global) -> Result<Function, NoMemory>
+    ensures { IfOk result (λ f. f ≡ double) }
+{
     let product = Expr::Mul(N, Operand::Const(2));
     let instrs = vec![in alloc; op(product, 1), print(R, 2), Instr::Return { value: R }]?;
     function(alloc, "main", lines(alloc, instrs)?)
 }
 
 /// `fun main(n; r) { 1: cond n -> 2, 4   2: op r = n - 1 -> 3   3: call r = main(r) -> 4   4: return n }`
-pub fn recursion(alloc: Global) -> Result<Function, NoMemory> {
+#[tactic(auto, unfolding(crate::specs::Samples::recursion, crate::specs::Samples::function_of))]
+pub fn recursion(alloc: Global) -> Result<Function, NoMemory>
+    ensures { IfOk result (λ f. f ≡ recursion) }
+{
     let instrs = vec![in alloc;
         cond(N, 1, 3),
         op(Expr::Sub(N, Operand::Const(1)), 2),
@@ -177,7 +189,10 @@ pub fn recursion(alloc: Global) -> Result<Function, NoMemory> {
 }
 
 /// `fun jump() { 1: nop -> 3   2: nop -> 1   3: return 7 }`, where nothing comes to the second line.
-pub fn jump(alloc: Global) -> Result<Function, NoMemory> {
+#[tactic(auto, unfolding(crate::specs::Samples::jump, crate::specs::Samples::function_without_registers))]
+pub fn jump(alloc: Global) -> Result<Function, NoMemory>
+    ensures { IfOk result (λ f. f ≡ jump) }
+{
     let instrs = vec![in alloc;
         Instr::Nop { next: Label(2) },
         Instr::Nop { next: Label(0) },
