@@ -69,7 +69,8 @@ pub record Pushes (frames : List Waiting) (old_windows new_windows : List Window
   pub tiled : AreTiled old_values (reverse old_windows) → AreTiled new_values (reverse new_windows)
 
 -- Windows further on of base frames that wait, given innermost first, and a last one of a frame that runs.
-pub record Writes (top : Frame) (waiting : List Waiting) (window : Window) (old_windows new_windows : List Window) (old_values new_values : List ℤ) : Type 0 where
+pub record Writes (top : Frame) (waiting : List Waiting) (window : Window) (old_windows new_windows : List Window)
+    (old_values new_values : List ℤ) : Type 0 where
   pub stacked : stacked_in new_values window (reverse new_windows)
       ≡ record { top = InBase top; waiting = map BaseWaits waiting ++ paused_in old_values (reverse old_windows) }
   pub tiled : AreTiled old_values (reverse old_windows) → AreTiled new_values (window ∷ reverse new_windows)

@@ -1,5 +1,6 @@
 -- A start fits its program, a turn keeps that, and a configuration that fits takes its turn.
-use Rattle.std.proofs.Common.{◌≡◌, ◌≢◌, ◌∙◌, sym, ap, subst, refl, ◌-◌, ◌<◌, List, [], ◌∷◌, length, reverse, Option, Some, None, Result, Ok, Err, IfOk, OnErr, Bool, true, false, All, ℤ, pos, if◌then◌else◌, arith, length-append, ⊎_elim}
+use Rattle.std.proofs.Common.{◌≡◌, ◌≢◌, ◌∙◌, sym, ap, subst, refl, ◌-◌, ◌<◌, List, [], ◌∷◌, length, reverse, Option, Some, None, Result, Ok, Err, IfOk, OnErr,
+    Bool, true, false, All, ℤ, pos, if◌then◌else◌, arith, length-append, ⊎_elim}
 use Rattle.std.proofs.lemmas.Option.{slice_get_cases}
 use Rattle.std.specs.Prelude.{slice_get, slice_set, ⊤}
 use Rattle.std.specs.Option.{option_and_then, option_map}
@@ -23,7 +24,9 @@ use Rattle.cj_base.specs.declared.machine.Config as code
 use Rattle.cj_base.specs.declared.machine.Turned.{Turned}
 use Rattle.cj_base.specs.declared.machine.Turned.TheVariants.{Ended}
 use Rattle.cj_base.specs.declared.machine.End.TheVariants.{TurnLimit}
-use Rattle.cj_base.specs.Machine.{Stack, Config, config_of, Fault, FailedAt, BadAddress, ZeroDivisor, Effect, On, Calls, Returns, Faults, with_value, cell, with_cell, branch, op_effect, load_effect, store_effect, effect, Outcome, Goes, Ends, Stuck, end_of, entry_regs, entry_frame, waits, resumed, give, turn_by, turn_at, base_turn}
+use Rattle.cj_base.specs.Machine.{Stack, Config, config_of, Fault, FailedAt, BadAddress, ZeroDivisor, Effect, On, Calls, Returns, Faults, with_value, cell,
+    with_cell, branch, op_effect, load_effect, store_effect, effect, Outcome, Goes, Ends, Stuck, end_of, entry_regs, entry_frame, waits, resumed, give,
+    turn_by, turn_at, base_turn}
 use Rattle.cj_base.specs.Turning.{Makes, answer_of, config_after}
 use Rattle.cj_base.specs.Run.{Begun, start_of}
 use Rattle.cj_base.specs.Fits.{IsFrameOf, IsWaitingOf, StackFits, Fits, FitsAfter}
@@ -32,14 +35,16 @@ use Rattle.cj_base.proofs.Lists.{All-reverse}
 
 -- an instruction of a well-formed program names only what exists
 module _ (P : Program) (formed : IsWellFormed P) where
-  in_line : (f : Function) (o : Option Line) (l : Label) (i : Instr) → IsFunctionFine P.functions f → slice_get f.code l.0 ≡ o → option_map (λ line. line.instr) o ≡ Some i → IsInstrFine P.functions (length f.regs) (length f.code) i
+  in_line : (f : Function) (o : Option Line) (l : Label) (i : Instr) → IsFunctionFine P.functions f → slice_get f.code l.0 ≡ o →
+      option_map (λ line. line.instr) o ≡ Some i → IsInstrFine P.functions (length f.regs) (length f.code) i
   in_line f None l i fine at e = cc
   in_line f (Some line) l i fine at e =
       let one = all_at (λ (x : Line). IsInstrFine P.functions (length f.regs) (length f.code) x.instr) f.code l.0 line fine.instructions at in
       let same : line.instr ≡ i = cc in
       subst (λ x. IsInstrFine P.functions (length f.regs) (length f.code) x) same one
 
-  in_function : (f : FunId) (o : Option Function) (l : Label) (i : Instr) → slice_get P.functions f.0 ≡ o → option_map (λ line. line.instr) (option_and_then (λ g. slice_get g.code l.0) o) ≡ Some i → IsInstrFine P.functions (regs_of o) (labels_of o) i
+  in_function : (f : FunId) (o : Option Function) (l : Label) (i : Instr) → slice_get P.functions f.0 ≡ o →
+      option_map (λ line. line.instr) (option_and_then (λ g. slice_get g.code l.0) o) ≡ Some i → IsInstrFine P.functions (regs_of o) (labels_of o) i
   in_function f None l i at e = cc
   in_function f (Some g) l i at e =
       in_line g (slice_get g.code l.0) l i (all_at (IsFunctionFine P.functions) P.functions f.0 g formed.functions at) refl e
@@ -51,7 +56,8 @@ pub label_at_top : (P : Program) (c : code.Config) → Fits P (config_of c) → 
 unfolding config_of
 label_at_top P c fits = fits.top.label_within
 
-pub instr_fine : (P : Program) (c : code.Config) (i : Instr) → Fits P (config_of c) → IsFineIn P c.top.function i → IsInstrFine P.functions (length c.top.regs) (label_count P c.top.function) i
+pub instr_fine : (P : Program) (c : code.Config) (i : Instr) → Fits P (config_of c) → IsFineIn P c.top.function i →
+    IsInstrFine P.functions (length c.top.regs) (label_count P c.top.function) i
 unfolding config_of
 instr_fine P c i fits fine =
     subst (λ n. IsInstrFine P.functions n (label_count P c.top.function) i) (sym fits.top.all_regs) fine
@@ -61,7 +67,8 @@ dest_within_regs P w h = rw h.frame.all_regs h.dest_within
 
 all_dests : (P : Program) (ws : List Waiting) → All (IsWaitingOf P) ws → All (λ w. w.dest.0 < length w.regs) ws
 all_dests P [] all = All-nil (λ (w : Waiting). w.dest.0 < length w.regs)
-all_dests P (w ∷ ws) all = All-cons (λ (w : Waiting). w.dest.0 < length w.regs) w ws (dest_within_regs P w (All-head (IsWaitingOf P) w ws all)) (all_dests P ws (All-tail (IsWaitingOf P) w ws all))
+all_dests P (w ∷ ws) all = All-cons (λ (w : Waiting). w.dest.0 < length w.regs) w ws (dest_within_regs P w (All-head (IsWaitingOf P) w ws all))
+    (all_dests P ws (All-tail (IsWaitingOf P) w ws all))
 
 pub waiting_dests : (P : Program) (c : code.Config) → Fits P (config_of c) → All (λ w. w.dest.0 < length w.regs) c.waiting
 unfolding config_of
@@ -86,11 +93,13 @@ branch_leads : (P : Program) (f : FunId) (b : Bool) (l k : Label) → l.0 < labe
 branch_leads P f true l k h h' = h
 branch_leads P f false l k h h' = h'
 
-pub effect_leads : (P : Program) (fr : Frame) (m : List ℤ) (i : Instr) → length fr.regs ≡ reg_count P fr.function → IsInstrFine P.functions (reg_count P fr.function) (label_count P fr.function) i → Leads P fr.function (effect i fr m)
+pub effect_leads : (P : Program) (fr : Frame) (m : List ℤ) (i : Instr) → length fr.regs ≡ reg_count P fr.function →
+    IsInstrFine P.functions (reg_count P fr.function) (label_count P fr.function) i → Leads P fr.function (effect i fr m)
 unfolding effect op_effect load_effect store_effect branch
 effect_leads P fr m (Nop next) all fine = (fine, all)
 effect_leads P fr m (Op dest e next) all fine =
-    value_leads P fr.function (expr_value fr.regs e) ZeroDivisor (λ v. On next (slice_set fr.regs dest.0 v) m []) (λ v. (fine.2, length-set fr.regs dest.0 v ∙ all))
+    value_leads P fr.function (expr_value fr.regs e) ZeroDivisor (λ v. On next (slice_set fr.regs dest.0 v) m [])
+        (λ v. (fine.2, length-set fr.regs dest.0 v ∙ all))
 effect_leads P fr m (Cond test a b) all fine =
     (branch_leads P fr.function (int_eq (operand_value fr.regs test) (pos 0)) b a fine.2 fine.1, all)
 effect_leads P fr m (Call dest f args next) all fine =
@@ -98,13 +107,16 @@ effect_leads P fr m (Call dest f args next) all fine =
 effect_leads P fr m (Return v) all fine = tt
 effect_leads P fr m (Print v next) all fine = (fine.1, all)
 effect_leads P fr m (Load dest a next) all fine =
-    value_leads P fr.function (cell m (operand_value fr.regs a)) (BadAddress (operand_value fr.regs a)) (λ v. On next (slice_set fr.regs dest.0 v) m []) (λ v. (fine.2, length-set fr.regs dest.0 v ∙ all))
+    value_leads P fr.function (cell m (operand_value fr.regs a)) (BadAddress (operand_value fr.regs a)) (λ v. On next (slice_set fr.regs dest.0 v) m [])
+        (λ v. (fine.2, length-set fr.regs dest.0 v ∙ all))
 effect_leads P fr m (Store a v next) all fine =
-    value_leads P fr.function (cell m (operand_value fr.regs a)) (BadAddress (operand_value fr.regs a)) (λ w. On next fr.regs (with_cell m (operand_value fr.regs a) (operand_value fr.regs v)) []) (λ w. (fine.2, all))
+    value_leads P fr.function (cell m (operand_value fr.regs a)) (BadAddress (operand_value fr.regs a))
+        (λ w. On next fr.regs (with_cell m (operand_value fr.regs a) (operand_value fr.regs v)) []) (λ w. (fine.2, all))
 effect_leads P fr m (Fail text) all fine = tt
 
 -- the entry frame of a function that takes so many arguments
-pub entry_fits : (P : Program) (f : FunId) (args : List ℤ) → IsWellFormed P → Takes P.functions f (length args) → IsFrameOf P f (record { 0 = 0 }) (entry_frame P f args).regs
+pub entry_fits : (P : Program) (f : FunId) (args : List ℤ) → IsWellFormed P → Takes P.functions f (length args) →
+    IsFrameOf P f (record { 0 = 0 }) (entry_frame P f args).regs
 unfolding entry_frame entry_regs
 entry_fits P f args formed takes =
     let callee = takes.0 in
@@ -164,14 +176,16 @@ found_line f l within =
     (λ none. absurd (omega (arith, none.0)))
     (slice_get_cases f.code l.0).1
 
-found_at : (P : Program) (f : FunId) (l : Label) (o : Option Function) → l.0 < labels_of o → (i : Instr) × (option_map (λ line. line.instr) (option_and_then (λ g. slice_get g.code l.0) o) ≡ Some i)
+found_at : (P : Program) (f : FunId) (l : Label) (o : Option Function) → l.0 < labels_of o →
+    (i : Instr) × (option_map (λ line. line.instr) (option_and_then (λ g. slice_get g.code l.0) o) ≡ Some i)
 found_at P f l None within = absurd (omega arith)
 found_at P f l (Some g) within = found_line g l within
 
 pub instr_found : (P : Program) (f : FunId) (l : Label) → l.0 < label_count P f → (i : Instr) × (instr_at P f l ≡ Some i)
 instr_found P f l within = found_at P f l (function_at P f) within
 
-pub turn_is : (P : Program) (s : Stack) (m : List ℤ) (i : Instr) → instr_at P s.top.function s.top.label ≡ Some i → base_turn P s m ≡ turn_by P (effect i s.top m) s m
+pub turn_is : (P : Program) (s : Stack) (m : List ℤ) (i : Instr) → instr_at P s.top.function s.top.label ≡ Some i →
+    base_turn P s m ≡ turn_by P (effect i s.top m) s m
 unfolding base_turn turn_at
 turn_is P s m i at = ap (λ o. turn_at P o s m) at
 
@@ -223,7 +237,9 @@ after_fits P (Goes printed c) old after before = after
 after_fits P (Ends end) old after before = before
 after_fits P Stuck old after before = before
 
-pub kept_fits : (P : Program) (o : Outcome) (old new : code.Config) (printed now_printed : List ℤ) (r : Result Turned NoMemory) → IfOk r (λ answer. Makes o answer (config_of old) (config_of new) printed now_printed) → OnErr r ((new ≡ old) × (now_printed ≡ printed)) → FitsAfter P o → Fits P (config_of old) → Fits P (config_of new)
+pub kept_fits : (P : Program) (o : Outcome) (old new : code.Config) (printed now_printed : List ℤ) (r : Result Turned NoMemory) →
+    IfOk r (λ answer. Makes o answer (config_of old) (config_of new) printed now_printed) → OnErr r ((new ≡ old) × (now_printed ≡ printed)) → FitsAfter P o →
+    Fits P (config_of old) → Fits P (config_of new)
 kept_fits P o old new printed now_printed (Ok answer) made err after before = rw made.leaves (after_fits P o (config_of old) after before)
 kept_fits P o old new printed now_printed (Err e) made err after before = rw err.0 before
 
@@ -232,6 +248,7 @@ answer_freely (Goes printed c) answer is free = λ e. cc
 answer_freely (Ends end) answer is free = λ e. free (let same : end ≡ TurnLimit = cc in same)
 answer_freely Stuck answer is free = λ e. cc
 
-pub made_freely : (o : Outcome) (old new : Config) (printed now_printed : List ℤ) (r : Result Turned NoMemory) → IfOk r (λ answer. Makes o answer old new printed now_printed) → EndsFreely o → IfOk r (λ answer. answer ≢ Ended TurnLimit)
+pub made_freely : (o : Outcome) (old new : Config) (printed now_printed : List ℤ) (r : Result Turned NoMemory) →
+    IfOk r (λ answer. Makes o answer old new printed now_printed) → EndsFreely o → IfOk r (λ answer. answer ≢ Ended TurnLimit)
 made_freely o old new printed now_printed (Ok answer) made free = answer_freely o answer made.answers free
 made_freely o old new printed now_printed (Err e) made free = tt

@@ -1,5 +1,6 @@
 -- A run, turn by turn.
-use Rattle.std.proofs.Common.{◌≡◌, ◌≢◌, ◌∙◌, ap, subst, refl, ℕ, zero, suc, ◌+◌, ◌-◌, ◌<◌, ◌≤◌, ◌⊎◌, ⊎_elim, inl, inr, List, [], ℤ, length, add-one, append-nil, arith}
+use Rattle.std.proofs.Common.{◌≡◌, ◌≢◌, ◌∙◌, ap, subst, refl, ℕ, zero, suc, ◌+◌, ◌-◌, ◌<◌, ◌≤◌, ◌⊎◌, ⊎_elim, inl, inr, List, [], ℤ, length, add-one,
+    append-nil, arith}
 use Rattle.std.specs.Prelude.{⊤}
 use Rattle.std.proofs.lemmas.Bool.{cases_lt}
 use Rattle.cj_ir.specs.WellFormed.{IsWellFormed, Takes}
@@ -16,7 +17,8 @@ use Rattle.cj_base.specs.Whole.{IsOutcomeOf, IsWhole}
 use Rattle.cj_base.proofs.FitsLemmas.{start_fits, turn_fits}
 
 -- the run after one turn more
-pub run_next : (P : Program) (call : Begun) (n : ℕ) (printed : List ℤ) (c : Config) → base_run P call n ≡ Going printed c → base_run P call (n + 1) ≡ ran printed (n + 1) (turn_of P c)
+pub run_next : (P : Program) (call : Begun) (n : ℕ) (printed : List ℤ) (c : Config) → base_run P call n ≡ Going printed c →
+    base_run P call (n + 1) ≡ ran printed (n + 1) (turn_of P c)
 unfolding base_run one_more
 run_next P call n printed c h = rw add-one (ap (one_more P (suc n)) h)
 
@@ -30,7 +32,8 @@ goes_on (Goes more d) c c' printed printed' n made = rw (made.leaves, made.print
 goes_on (Ends end) c c' printed printed' n made = let e = made.answers in cc
 goes_on Stuck c c' printed printed' n made = let e = made.answers in cc
 
-ends : (o : Outcome) (c c' : Config) (printed printed' : List ℤ) (end : End) (n : ℕ) → Makes o (Ended end) c c' printed printed' → ran printed n o ≡ Over printed' end n
+ends : (o : Outcome) (c c' : Config) (printed printed' : List ℤ) (end : End) (n : ℕ) → Makes o (Ended end) c c' printed printed' →
+    ran printed n o ≡ Over printed' end n
 unfolding ran
 ends (Goes more d) c c' printed printed' end n made = let e = made.answers in cc
 ends (Ends other) c c' printed printed' end n made =
@@ -39,38 +42,45 @@ ends (Ends other) c c' printed printed' end n made =
     rw (same, prints) refl
 ends Stuck c c' printed printed' end n made = let e = made.answers in cc
 
-pub run_goes_on : (P : Program) (call : Begun) (n : ℕ) (c c' : Config) (printed printed' : List ℤ) → base_run P call n ≡ Going printed c → Makes (turn_of P c) Running c c' printed printed' → base_run P call (n + 1) ≡ Going printed' c'
+pub run_goes_on : (P : Program) (call : Begun) (n : ℕ) (c c' : Config) (printed printed' : List ℤ) → base_run P call n ≡ Going printed c →
+    Makes (turn_of P c) Running c c' printed printed' → base_run P call (n + 1) ≡ Going printed' c'
 run_goes_on P call n c c' printed printed' before made =
     run_next P call n printed c before ∙ goes_on (turn_of P c) c c' printed printed' (n + 1) made
 
-pub run_ends : (P : Program) (call : Begun) (n : ℕ) (c c' : Config) (printed printed' : List ℤ) (end : End) → base_run P call n ≡ Going printed c → Makes (turn_of P c) (Ended end) c c' printed printed' → EndStands P call (n + 1) printed' end
+pub run_ends : (P : Program) (call : Begun) (n : ℕ) (c c' : Config) (printed printed' : List ℤ) (end : End) → base_run P call n ≡ Going printed c →
+    Makes (turn_of P c) (Ended end) c c' printed printed' → EndStands P call (n + 1) printed' end
 run_ends P call n c c' printed printed' end before made =
     run_next P call n printed c before ∙ ends (turn_of P c) c c' printed printed' end (n + 1) made
 
 -- A run that is over stays over.
 
-over_next : (P : Program) (call : Begun) (n k : ℕ) (printed : List ℤ) (end : End) → base_run P call n ≡ Over printed end k → base_run P call (suc n) ≡ Over printed end k
+over_next : (P : Program) (call : Begun) (n k : ℕ) (printed : List ℤ) (end : End) → base_run P call n ≡ Over printed end k →
+    base_run P call (suc n) ≡ Over printed end k
 unfolding base_run one_more
 over_next P call n k printed end h = ap (one_more P (suc n)) h
 
-over_more : (P : Program) (call : Begun) (n k d : ℕ) (printed : List ℤ) (end : End) → base_run P call n ≡ Over printed end k → base_run P call (d + n) ≡ Over printed end k
+over_more : (P : Program) (call : Begun) (n k d : ℕ) (printed : List ℤ) (end : End) → base_run P call n ≡ Over printed end k →
+    base_run P call (d + n) ≡ Over printed end k
 over_more P call n k zero printed end h = let e : 0 + n ≡ n = omega arith in rw e h
 over_more P call n k (suc d) printed end h =
     let e : suc d + n ≡ suc (d + n) = omega arith in
     rw e (over_next P call (d + n) k printed end (over_more P call n k d printed end h))
 
-pub over_stays : (P : Program) (call : Begun) (n m k : ℕ) (printed : List ℤ) (end : End) → base_run P call n ≡ Over printed end k → n ≤ m → base_run P call m ≡ Over printed end k
+pub over_stays : (P : Program) (call : Begun) (n m k : ℕ) (printed : List ℤ) (end : End) → base_run P call n ≡ Over printed end k → n ≤ m →
+    base_run P call m ≡ Over printed end k
 over_stays P call n m k printed end h le =
     let e : m - n + n ≡ m = omega arith in
     rw e at (over_more P call n k (m - n) printed end h)
 
 -- a run that goes on after m turns did not end with one of them
-pub going_before : (P : Program) (call : Begun) (m n k : ℕ) (printed p : List ℤ) (c : Config) (end : End) → base_run P call m ≡ Going p c → base_run P call n ≡ Over printed end k → m < n
+pub going_before : (P : Program) (call : Begun) (m n k : ℕ) (printed p : List ℤ) (c : Config) (end : End) → base_run P call m ≡ Going p c →
+    base_run P call n ≡ Over printed end k → m < n
 going_before P call m n k printed p c end going over =
     ⊎_elim (λ lt. lt) (λ le. let same = over_stays P call n m k printed end over le in cc) (cases_lt m n)
 
 -- a run has one end
-pub one_end : (P : Program) (call : Begun) (n m t u : ℕ) (printed p : List ℤ) (end e : End) → base_run P call n ≡ Over printed end t → base_run P call m ≡ Over p e u → (printed ≡ p) × (end ≡ e) × (t ≡ u)
+pub one_end : (P : Program) (call : Begun) (n m t u : ℕ) (printed p : List ℤ) (end e : End) → base_run P call n ≡ Over printed end t →
+    base_run P call m ≡ Over p e u → (printed ≡ p) × (end ≡ e) × (t ≡ u)
 one_end P call n m t u printed p end e h k = ⊎_elim
     (λ (lt : n < m).
     let le : n ≤ m = omega arith in
@@ -79,7 +89,8 @@ one_end P call n m t u printed p end e h k = ⊎_elim
     (λ le. let same = over_stays P call m n u p e k le in (cc, cc, cc)) (cases_lt n m)
 
 -- it ends once
-pub ends_once : (P : Program) (call : Begun) (n m : ℕ) (printed p : List ℤ) (end e : End) → EndStands P call n printed end → EndStands P call m p e → (n ≡ m) × (printed ≡ p) × (end ≡ e)
+pub ends_once : (P : Program) (call : Begun) (n m : ℕ) (printed p : List ℤ) (end e : End) → EndStands P call n printed end → EndStands P call m p e →
+    (n ≡ m) × (printed ≡ p) × (end ≡ e)
 ends_once P call n m printed p end e h k =
     let same = one_end P call n m n m printed p end e h k in
     (same.2, same.0, same.1)
@@ -102,7 +113,9 @@ whole_of P call o is n printed end stands within = ⊎_elim
     (λ not. ends_once P call o.turns n o.printed printed o.end end (is.ended not).0 stands) (limit_or_not o.end)
 
 -- an outcome with an end that a turn made
-pub ended_outcome : (P : Program) (call : Begun) (n turns : ℕ) (c c' : Config) (printed printed' : List ℤ) (end : End) → base_run P call n ≡ Going printed c → Makes (turn_of P c) (Ended end) c c' printed printed' → Ended end ≢ Ended TurnLimit → turns ≡ n + 1 → n < call.limit → IsOutcomeOf P call (record { printed = printed'; end = end; turns = turns })
+pub ended_outcome : (P : Program) (call : Begun) (n turns : ℕ) (c c' : Config) (printed printed' : List ℤ) (end : End) → base_run P call n ≡ Going printed c →
+    Makes (turn_of P c) (Ended end) c c' printed printed' → Ended end ≢ Ended TurnLimit → turns ≡ n + 1 → n < call.limit →
+    IsOutcomeOf P call (record { printed = printed'; end = end; turns = turns })
 ended_outcome P call n turns c c' printed printed' end before made not at within =
     let stands = run_ends P call n c c' printed printed' end before made in
     record {
@@ -112,7 +125,8 @@ ended_outcome P call n turns c c' printed printed' end before made not at within
     }
 
 -- an outcome at the limit
-pub limit_outcome : (P : Program) (call : Begun) (printed : List ℤ) (n : ℕ) (c : Config) → base_run P call n ≡ Going printed c → n ≡ call.limit → IsOutcomeOf P call (record { printed = printed; end = TurnLimit; turns = n })
+pub limit_outcome : (P : Program) (call : Begun) (printed : List ℤ) (n : ℕ) (c : Config) → base_run P call n ≡ Going printed c → n ≡ call.limit →
+    IsOutcomeOf P call (record { printed = printed; end = TurnLimit; turns = n })
 limit_outcome P call printed n c going at = record {
   ended = λ not. absurd (not refl);
   limited = λ _. (at, (c, going));

@@ -6,7 +6,8 @@ use Rattle.cj_ir.specs.declared.language.Program.{Program}
 use Rattle.cj_ir.specs.declared.language.Instr.{Instr}
 use Rattle.cj_base.specs.declared.machine.Waiting.{Waiting}
 use Rattle.cj_base.specs.declared.machine.End.TheVariants.{Returned, Failed, Address, Divide, TurnLimit}
-use Rattle.cj_base.specs.Machine.{Stack, over, Fault, FailedAt, BadAddress, ZeroDivisor, Effect, On, Calls, Returns, Faults, effect, Outcome, Goes, Ends, Stuck, end_of, give, turn_by, turn_at, base_turn}
+use Rattle.cj_base.specs.Machine.{Stack, over, Fault, FailedAt, BadAddress, ZeroDivisor, Effect, On, Calls, Returns, Faults, effect, Outcome, Goes, Ends,
+    Stuck, end_of, give, turn_by, turn_at, base_turn}
 use Rattle.cj_base.specs.Same.{Same}
 use Rattle.cj_base.specs.Run.{Begun, start_of, Going, Over, ran, base_run, RunAt, EndStands, IsSilent, SilentAt}
 use Rattle.cj_base.proofs.SameLaws.{same_refl, same_trans, same_over, same_instr, same_turn, SameOutcome}
@@ -61,7 +62,8 @@ After P call n printed (Goes more c) = RunAt P call n (printed ++ more) c.stack 
 After P call n printed (Ends end) = EndStands P call n printed end
 After P call n printed Stuck = ⊤
 
-after_same : (P : Program) (call : Begun) (n : ℕ) (printed : List ℤ) (o q : Outcome) → base_run P call n ≡ ran printed n o → SameOutcome P o q → After P call n printed q
+after_same : (P : Program) (call : Begun) (n : ℕ) (printed : List ℤ) (o q : Outcome) → base_run P call n ≡ ran printed n o → SameOutcome P o q →
+    After P call n printed q
 unfolding ran
 after_same P call n printed (Goes p c) (Goes q d) h s = record {
   found = c.stack;
@@ -78,7 +80,8 @@ after_same P call n printed Stuck (Ends f) h s = absurd s
 after_same P call n printed Stuck Stuck h s = tt
 
 -- the run after one turn more, from the turn of its first frames
-pub run_segment : (P : Program) (call : Begun) (n : ℕ) (printed : List ℤ) (s : Stack) (below : List Waiting) (m : List ℤ) (o : Outcome) → RunAt P call n printed (over s below) m → base_turn P s m ≡ o → After P call (n + 1) printed (lift below m o)
+pub run_segment : (P : Program) (call : Begun) (n : ℕ) (printed : List ℤ) (s : Stack) (below : List Waiting) (m : List ℤ) (o : Outcome) →
+    RunAt P call n printed (over s below) m → base_turn P s m ≡ o → After P call (n + 1) printed (lift below m o)
 run_segment P call n printed s below m o h t =
     let e = turn_over P s below m ∙ ap (lift below m) t in
     let next = run_next P call n printed (record { stack = h.found; memory = m }) h.run in
@@ -86,7 +89,8 @@ run_segment P call n printed s below m o h t =
     (after_same P call (n + 1) printed (base_turn P h.found m) (base_turn P (over s below) m) next (same_turn P h.found (over s below) m h.same))
 
 -- a run that goes on from one stack goes on from the same one
-pub run_same : (P : Program) (call : Begun) (n : ℕ) (printed : List ℤ) (a b : Stack) (below : List Waiting) (m : List ℤ) → RunAt P call n printed (over a below) m → Same P a b → RunAt P call n printed (over b below) m
+pub run_same : (P : Program) (call : Begun) (n : ℕ) (printed : List ℤ) (a b : Stack) (below : List Waiting) (m : List ℤ) →
+    RunAt P call n printed (over a below) m → Same P a b → RunAt P call n printed (over b below) m
 run_same P call n printed a b below m h s = record {
   found = h.found;
   run = h.run;
@@ -103,6 +107,7 @@ run_begins P call = record {
 }
 
 -- where a silent instruction stands at the top of the stack, the run is at a silent turn
-pub run_silent : (P : Program) (call : Begun) (n : ℕ) (printed : List ℤ) (s : Stack) (m : List ℤ) → RunAt P call n printed s m → IsSilent (instr_at P s.top.function s.top.label) → SilentAt P (base_run P call n)
+pub run_silent : (P : Program) (call : Begun) (n : ℕ) (printed : List ℤ) (s : Stack) (m : List ℤ) → RunAt P call n printed s m →
+    IsSilent (instr_at P s.top.function s.top.label) → SilentAt P (base_run P call n)
 run_silent P call n printed s m h silent =
     subst (SilentAt P) (sym h.run) (subst IsSilent (sym (same_instr P h.found s h.same)) silent)

@@ -14,7 +14,8 @@ use Rattle.cj_ir.specs.declared.script.ScriptCall.{ScriptCall}
 use Rattle.cj_ir.specs.declared.script.Setup.{Setup}
 use Rattle.cj_ir.proofs.WellFormedLemmas.{Grants-program}
 use Rattle.cj_script.specs.Fitting.{FitsSetup, FitsCall, FitsScript}
-use Rattle.cj_bench.specs.Generated.{after, lines_of, eighth_of, function_name, function_of, function_drawn, functions_drawn, call_drawn, calls_drawn, generated_program, generated_script}
+use Rattle.cj_bench.specs.Generated.{after, lines_of, eighth_of, function_name, function_of, function_drawn, functions_drawn, call_drawn, calls_drawn,
+    generated_program, generated_script}
 
 -- what holds of each number holds of each item
 pub all_made : {X : Type 0} (f : ℕ → X) (P : X → Type 0) (n : ℕ) → ((i : ℕ) → i < n → P (f i)) → All P (map f (range_with_len 0 n))
@@ -75,7 +76,8 @@ script_fits number =
     }
 
 -- the same of what equals them
-pub made_fits : (number x : ℕ) (p : Program) (fs : List Function) (setups : List Setup) (calls : List ScriptCall) → p ≡ record { functions = fs } → fs ≡ functions_drawn 32 number → setups ≡ [] → x ≡ after 128 number → calls ≡ calls_drawn 256 x → FitsScript p (record { setups = setups; calls = calls })
+pub made_fits : (number x : ℕ) (p : Program) (fs : List Function) (setups : List Setup) (calls : List ScriptCall) → p ≡ record { functions = fs } →
+    fs ≡ functions_drawn 32 number → setups ≡ [] → x ≡ after 128 number → calls ≡ calls_drawn 256 x → FitsScript p (record { setups = setups; calls = calls })
 unfolding generated_program generated_script
 made_fits number x p fs setups calls program functions none state made =
     rw (program, functions, none, made, state) (script_fits number)

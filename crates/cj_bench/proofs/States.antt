@@ -39,14 +39,16 @@ unfolding calls_drawn
 calls_more n x = map-range_with_len_more (λ k. call_drawn (after (2 * k) x)) 0 n n (omega arith)
 
 -- a turn of the loops
-pub one_function : (n x y : ℕ) (before now : List Function) → before ≡ functions_drawn n x → y ≡ after (4 * n) x → now ≡ before ++ function_drawn n y ∷ [] → now ≡ functions_drawn (n + 1) x
+pub one_function : (n x y : ℕ) (before now : List Function) → before ≡ functions_drawn n x → y ≡ after (4 * n) x → now ≡ before ++ function_drawn n y ∷ [] →
+    now ≡ functions_drawn (n + 1) x
 one_function n x y before now earlier state step =
     step
     ∙ ap (λ (fs : List Function). fs ++ function_drawn n y ∷ []) earlier
     ∙ ap (λ z. functions_drawn n x ++ function_drawn n z ∷ []) state
     ∙ sym (functions_more n x)
 
-pub one_call : (n x y : ℕ) (before now : List ScriptCall) → before ≡ calls_drawn n x → y ≡ after (2 * n) x → now ≡ before ++ call_drawn y ∷ [] → now ≡ calls_drawn (n + 1) x
+pub one_call : (n x y : ℕ) (before now : List ScriptCall) → before ≡ calls_drawn n x → y ≡ after (2 * n) x → now ≡ before ++ call_drawn y ∷ [] →
+    now ≡ calls_drawn (n + 1) x
 one_call n x y before now earlier state step =
     step
     ∙ ap (λ (calls : List ScriptCall). calls ++ call_drawn y ∷ []) earlier

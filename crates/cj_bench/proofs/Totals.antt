@@ -1,5 +1,6 @@
 -- One more report in the counts and the sum of a summary.
-use Rattle.std.proofs.Common.{◌≡◌, ◌∙◌, sym, ap, refl, ℕ, ◌+◌, ◌<◌, ◌≤◌, ℤ, pos, ◌+ℤ◌, Bool, true, false, List, [], ◌∷◌, length, drop, get_or, Option, Some, None, arith, FitsSigned, w64, if◌then◌else◌}
+use Rattle.std.proofs.Common.{◌≡◌, ◌∙◌, sym, ap, refl, ℕ, ◌+◌, ◌<◌, ◌≤◌, ℤ, pos, ◌+ℤ◌, Bool, true, false, List, [], ◌∷◌, length, drop, get_or, Option, Some,
+    None, arith, FitsSigned, w64, if◌then◌else◌}
 use Rattle.std.specs.Prelude.{MatchOption, is_some}
 use mir.Val.{bool_byte}
 use Rattle.std.specs.List.{cons_option}
@@ -12,7 +13,8 @@ use Rattle.cj_ir.specs.Values.{wrap}
 use Rattle.cj_calls.specs.declared.report.Report.{Report}
 use Rattle.cj_bench.specs.Summary.{value_of_end, returned, print_count, total}
 
-returned_more : (rs : List Report) (i : ℕ) (r : Report) → i < length rs → returned (drop i rs) ≡ cons_option (value_of_end (get_or rs i r).end) (returned (drop (i + 1) rs))
+returned_more : (rs : List Report) (i : ℕ) (r : Report) → i < length rs →
+    returned (drop i rs) ≡ cons_option (value_of_end (get_or rs i r).end) (returned (drop (i + 1) rs))
 unfolding returned
 returned_more rs i r h = at_drop_more returned rs i r h
 
@@ -36,7 +38,8 @@ pub at_most_one : (n : ℕ) (test : Bool) → n ≡ (if test then 1 else 0) → 
 at_most_one n true e = omega (arith, e)
 at_most_one n false e = omega (arith, e)
 
-pub returns_turn : (rs : List Report) (i : ℕ) (r : Report) (before now all : ℕ) → i < length rs → before + length (returned (drop i rs)) ≡ all → now ≡ before + (if is_some (value_of_end (get_or rs i r).end) then 1 else 0) → now + length (returned (drop (i + 1) rs)) ≡ all
+pub returns_turn : (rs : List Report) (i : ℕ) (r : Report) (before now all : ℕ) → i < length rs → before + length (returned (drop i rs)) ≡ all →
+    now ≡ before + (if is_some (value_of_end (get_or rs i r).end) then 1 else 0) → now + length (returned (drop (i + 1) rs)) ≡ all
 returns_turn rs i r before now all h left step =
     let more : length (returned (drop i rs)) ≡ (if is_some (value_of_end (get_or rs i r).end) then 1 else 0) + length (returned (drop (i + 1) rs)) =
     ap length (returned_more rs i r h) ∙ one_of (value_of_end (get_or rs i r).end) (returned (drop (i + 1) rs))
@@ -50,7 +53,8 @@ returns_end rs i now all past left =
 
 -- ---- the number of prints
 
-pub prints_turn : (rs : List Report) (i : ℕ) (r : Report) (before now all : ℕ) → i < length rs → before + print_count (drop i rs) ≡ all → now ≡ before + length (get_or rs i r).printed → now + print_count (drop (i + 1) rs) ≡ all
+pub prints_turn : (rs : List Report) (i : ℕ) (r : Report) (before now all : ℕ) → i < length rs → before + print_count (drop i rs) ≡ all →
+    now ≡ before + length (get_or rs i r).printed → now + print_count (drop (i + 1) rs) ≡ all
 unfolding print_count
 prints_turn rs i r before now all h left step =
     let more : print_count (drop i rs) ≡ length (get_or rs i r).printed + print_count (drop (i + 1) rs) =
@@ -74,7 +78,8 @@ total-nil : total [] ≡ pos 0
 unfolding total
 total-nil = refl
 
-sum_behind : (o : Option ℤ) (vs : List ℤ) (before now : ℤ) → MatchOption o (now ≡ before) (λ v. now ≡ wrap (before +ℤ v)) → wrap (now +ℤ total vs) ≡ wrap (before +ℤ total (cons_option o vs))
+sum_behind : (o : Option ℤ) (vs : List ℤ) (before now : ℤ) → MatchOption o (now ≡ before) (λ v. now ≡ wrap (before +ℤ v)) →
+    wrap (now +ℤ total vs) ≡ wrap (before +ℤ total (cons_option o vs))
 sum_behind None vs before now step = ap (λ s. wrap (s +ℤ total vs)) step
 sum_behind (Some v) vs before now step =
     ap (λ s. wrap (s +ℤ total vs)) step
@@ -82,7 +87,8 @@ sum_behind (Some v) vs before now step =
     ∙ ap wrap (+ℤ_assoc before v (total vs))
     ∙ ap (λ s. wrap (before +ℤ s)) (sym (total-cons v vs))
 
-pub sum_turn : (rs : List Report) (i : ℕ) (r : Report) (before now all : ℤ) → i < length rs → wrap (before +ℤ total (returned (drop i rs))) ≡ all → MatchOption (value_of_end (get_or rs i r).end) (now ≡ before) (λ v. now ≡ wrap (before +ℤ v)) → wrap (now +ℤ total (returned (drop (i + 1) rs))) ≡ all
+pub sum_turn : (rs : List Report) (i : ℕ) (r : Report) (before now all : ℤ) → i < length rs → wrap (before +ℤ total (returned (drop i rs))) ≡ all →
+    MatchOption (value_of_end (get_or rs i r).end) (now ≡ before) (λ v. now ≡ wrap (before +ℤ v)) → wrap (now +ℤ total (returned (drop (i + 1) rs))) ≡ all
 sum_turn rs i r before now all h left step =
     sum_behind (value_of_end (get_or rs i r).end) (returned (drop (i + 1) rs)) before now step
     ∙ ap (λ vs. wrap (before +ℤ total vs)) (sym (returned_more rs i r h))

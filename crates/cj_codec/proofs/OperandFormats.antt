@@ -18,8 +18,10 @@ use Rattle.cj_codec.specs.declared.reader.Limits.{Limits}
 use Rattle.cj_spelling.specs.Spelling.{operand_words, two_operands, expr_words, guard_words}
 use Rattle.cj_spelling.specs.Values.{IsValue, HasOperandValue, HasExprValues, HasGuardValue}
 use Rattle.cj_spelling.specs.Formats.{made, below_at}
-use Rattle.cj_codec.specs.Reading.{function_of, label_of, reg_of, function_at, label_at, base_label_at, reg_at, base_reg_at, value_at, operand_by, operand_at, operands_at, one_operand, two_operands_at, expr_by, expr_at, guard_by, guard_at}
-use Rattle.cj_spelling.proofs.Formats.{IsFormat, made_format, made_from, below_format, two_reads, two_spells, kind_from, by_kind, nothing_read, kinded, first_same, rest_same}
+use Rattle.cj_codec.specs.Reading.{function_of, label_of, reg_of, function_at, label_at, base_label_at, reg_at, base_reg_at, value_at, operand_by, operand_at,
+    operands_at, one_operand, two_operands_at, expr_by, expr_at, guard_by, guard_at}
+use Rattle.cj_spelling.proofs.Formats.{IsFormat, made_format, made_from, below_format, two_reads, two_spells, kind_from, by_kind, nothing_read, kinded,
+    first_same, rest_same}
 
 -- ---- single words
 
@@ -82,7 +84,8 @@ unfolding operand_at
 operand_reads limits (operand.Reg r) rest h = ap (made operand.Reg) ((reg_format limits).reads r rest h.0)
 operand_reads limits (operand.Const c) rest h = ap (made operand.Const) (value_format.reads c rest h.1)
 
-operand_spells : (limits : Limits) (ws : List ℕ) (a : Operand) (rest : List ℕ) → operand_at limits ws ≡ Some (a, rest) → InOperand limits a × (ws ≡ operand_words a ++ rest)
+operand_spells : (limits : Limits) (ws : List ℕ) (a : Operand) (rest : List ℕ) → operand_at limits ws ≡ Some (a, rest) →
+    InOperand limits a × (ws ≡ operand_words a ++ rest)
 unfolding operand_at
 operand_spells limits ws a rest e =
     let k = kind_from (operand_by limits) ws a rest e in
@@ -125,10 +128,12 @@ InExpr limits expr = IsExprWithin limits.regs expr × HasExprValues expr
 abbrev SpellsExpr : Limits → List ℕ → Expr → List ℕ → Type 0
 SpellsExpr limits ws expr rest = InExpr limits expr × (ws ≡ expr_words expr ++ rest)
 
-one_reads : (f : Operand → Expr) (limits : Limits) (a : Operand) (rest : List ℕ) → InOperand limits a → one_operand f limits (operand_words a ++ rest) ≡ Some (f a, rest)
+one_reads : (f : Operand → Expr) (limits : Limits) (a : Operand) (rest : List ℕ) → InOperand limits a →
+    one_operand f limits (operand_words a ++ rest) ≡ Some (f a, rest)
 one_reads f limits a rest h = ap (made f) ((operand_format limits).reads a rest h)
 
-both_reads : (f : Operand → Operand → Expr) (limits : Limits) (a b : Operand) (rest : List ℕ) → InOperand limits a → InOperand limits b → two_operands_at f limits (two_operands a b ++ rest) ≡ Some (f a b, rest)
+both_reads : (f : Operand → Operand → Expr) (limits : Limits) (a b : Operand) (rest : List ℕ) → InOperand limits a → InOperand limits b →
+    two_operands_at f limits (two_operands a b ++ rest) ≡ Some (f a b, rest)
 both_reads f limits a b rest ia ib = ap (made (λ (both : Operand × Operand). f both.0 both.1)) ((operands_format limits).reads (a, b) rest (ia, ib))
 
 expr_reads : (limits : Limits) (expr : Expr) (rest : List ℕ) → InExpr limits expr → expr_at limits (expr_words expr ++ rest) ≡ Some (expr, rest)
@@ -144,17 +149,22 @@ expr_reads limits (Rem a b) rest h = both_reads Rem limits a b rest (h.0.0, h.1.
 expr_reads limits (Eq a b) rest h = both_reads Eq limits a b rest (h.0.0, h.1.0) (h.0.1, h.1.1)
 expr_reads limits (Lt a b) rest h = both_reads Lt limits a b rest (h.0.0, h.1.0) (h.0.1, h.1.1)
 
-one_spells : (f : Operand → Expr) (n : ℕ) → ((limits : Limits) (a : Operand) → InOperand limits a → InExpr limits (f a)) → ((a : Operand) → expr_words (f a) ≡ n ∷ operand_words a) → (limits : Limits) (ws : List ℕ) (kind : ℕ) (more : List ℕ) (expr : Expr) (rest : List ℕ) → ws ≡ kind ∷ more → kind ≡ n → one_operand f limits more ≡ Some (expr, rest) → SpellsExpr limits ws expr rest
+one_spells : (f : Operand → Expr) (n : ℕ) → ((limits : Limits) (a : Operand) → InOperand limits a → InExpr limits (f a)) →
+    ((a : Operand) → expr_words (f a) ≡ n ∷ operand_words a) → (limits : Limits) (ws : List ℕ) (kind : ℕ) (more : List ℕ) (expr : Expr) (rest : List ℕ) →
+    ws ≡ kind ∷ more → kind ≡ n → one_operand f limits more ≡ Some (expr, rest) → SpellsExpr limits ws expr rest
 one_spells f n ranges begins limits ws kind more expr rest front is e =
     let m = made_from f (operand_at limits more) expr rest e in
     let s = (operand_format limits).spells more m.from rest m.read in
     kinded (InExpr limits) expr_words n ws kind more expr rest (f m.from) (operand_words m.from) front is m.is (ranges limits m.from s.0) s.1 (begins m.from)
 
-both_spells : (f : Operand → Operand → Expr) (n : ℕ) → ((limits : Limits) (a b : Operand) → InOperand limits a → InOperand limits b → InExpr limits (f a b)) → ((a b : Operand) → expr_words (f a b) ≡ n ∷ two_operands a b) → (limits : Limits) (ws : List ℕ) (kind : ℕ) (more : List ℕ) (expr : Expr) (rest : List ℕ) → ws ≡ kind ∷ more → kind ≡ n → two_operands_at f limits more ≡ Some (expr, rest) → SpellsExpr limits ws expr rest
+both_spells : (f : Operand → Operand → Expr) (n : ℕ) → ((limits : Limits) (a b : Operand) → InOperand limits a → InOperand limits b → InExpr limits (f a b)) →
+    ((a b : Operand) → expr_words (f a b) ≡ n ∷ two_operands a b) → (limits : Limits) (ws : List ℕ) (kind : ℕ) (more : List ℕ) (expr : Expr) (rest : List ℕ) →
+    ws ≡ kind ∷ more → kind ≡ n → two_operands_at f limits more ≡ Some (expr, rest) → SpellsExpr limits ws expr rest
 both_spells f n ranges begins limits ws kind more expr rest front is e =
     let m = made_from (λ (both : Operand × Operand). f both.0 both.1) (operands_at limits more) expr rest e in
     let s = (operands_format limits).spells more m.from rest m.read in
-    kinded (InExpr limits) expr_words n ws kind more expr rest (f m.from.0 m.from.1) (both_words m.from) front is m.is (ranges limits m.from.0 m.from.1 s.0.0 s.0.1) s.1 (begins m.from.0 m.from.1)
+    kinded (InExpr limits) expr_words n ws kind more expr rest (f m.from.0 m.from.1) (both_words m.from) front is m.is
+        (ranges limits m.from.0 m.from.1 s.0.0 s.0.1) s.1 (begins m.from.0 m.from.1)
 
 expr_spells : (limits : Limits) (ws : List ℕ) (expr : Expr) (rest : List ℕ) → expr_at limits ws ≡ Some (expr, rest) → SpellsExpr limits ws expr rest
 unfolding expr_at
@@ -193,11 +203,13 @@ unfolding guard_at
 guard_spells limits ws guard rest e =
     let k = kind_from (guard_by limits) ws guard rest e in
     let never : k.kind ≡ 0 → Some (Never, k.more) ≡ Some (guard, rest) → SpellsGuard limits ws guard rest = λ is h.
-    kinded (InGuard limits) guard_words 0 ws k.kind k.more guard rest Never [] k.is is (first_same Never guard k.more rest h) (tt, tt) (rest_same Never guard k.more rest h) refl in
+    kinded (InGuard limits) guard_words 0 ws k.kind k.more guard rest Never [] k.is is (first_same Never guard k.more rest h) (tt, tt)
+        (rest_same Never guard k.more rest h) refl in
     by_kind k.kind 0 _ _ (guard, rest) never
     (by_kind k.kind 1 _ _ (guard, rest) (λ is h.
     let m = two_spells Is (reg_format limits) value_format k.more guard rest h in
-    kinded (InGuard limits) guard_words 1 ws k.kind k.more guard rest (Is m.a m.b) (reg_words m.a ++ value_words m.b) k.is is m.is (m.in_a, m.in_b) m.spelled refl)
+    kinded (InGuard limits) guard_words 1 ws k.kind k.more guard rest (Is m.a m.b) (reg_words m.a ++ value_words m.b) k.is is m.is
+        (m.in_a, m.in_b) m.spelled refl)
     (λ h. nothing_read (guard, rest) h)) k.then
 
 pub guard_format : (limits : Limits) → IsFormat (InGuard limits) guard_words (guard_at limits)

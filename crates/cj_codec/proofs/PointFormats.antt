@@ -29,7 +29,8 @@ all_second P Q xs both = λ k d h. (both k d h).1
 abbrev pub AreOperands : Limits → ℕ → List Operand → Type 0
 AreOperands limits most operands = (length operands ≤ most) × All (InOperand limits) operands
 
-pub few_operands_format : (limits : Limits) (most : ℕ) → IsFormat (AreOperands limits most) (counted operand_words) (counted_at (at_most_at most) (operand_at limits))
+pub few_operands_format : (limits : Limits) (most : ℕ) →
+    IsFormat (AreOperands limits most) (counted operand_words) (counted_at (at_most_at most) (operand_at limits))
 few_operands_format limits most = counted_format (at_most_format most) (operand_format limits)
 
 -- ---- frames
@@ -41,7 +42,8 @@ pub frame_format : (limits : Limits) → IsFormat (InFrame limits) frame_words (
 unfolding frame_at
 frame_format limits = record {
   reads = λ f rest h.
-      four_reads frame_of function_format base_label_format base_reg_format (few_operands_format limits 32) f.function f.label f.dest f.map rest h.0.function h.0.label h.0.dest
+      four_reads frame_of function_format base_label_format base_reg_format (few_operands_format limits 32) f.function f.label f.dest f.map rest h.0.function
+          h.0.label h.0.dest
       (h.0.few_operands, all_both (IsOperandWithin limits.regs) HasOperandValue f.map h.0.operands h.1);
   spells = λ ws f rest e.
       let h = four_spells frame_of function_format base_label_format base_reg_format (few_operands_format limits 32) ws f rest e in
@@ -72,7 +74,8 @@ InPoint limits point = IsPointInRange limits.regs point × HasPointValues point
 abbrev AreFrames : Limits → List PointFrame → Type 0
 AreFrames limits frames = ((length frames ≤ 4) × All (InFrame limits) frames) × HasPlainTop frames
 
-frames_format : (limits : Limits) → IsFormat (AreFrames limits) (counted frame_words) (λ ws. only has_plain_top (counted_at (at_most_at 4) (frame_at limits) ws))
+frames_format : (limits : Limits) →
+    IsFormat (AreFrames limits) (counted frame_words) (λ ws. only has_plain_top (counted_at (at_most_at 4) (frame_at limits) ws))
 frames_format limits = only_format HasPlainTop has_plain_top plain_sound plain_complete (counted_format (at_most_format 4) (frame_format limits))
 
 to_point : (limits : Limits) (point : Point) → AreFrames limits point.frames → InPoint limits point

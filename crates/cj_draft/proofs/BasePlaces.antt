@@ -54,25 +54,31 @@ numbered_place f n numbered = base_place f n (record { 0 = numbered.0 }) numbere
 enumerate_at : (n k : ℕ) (xs : List Line) → slice_get (enumerate_from n xs) k ≡ option_map (λ x. (n + k, x)) (slice_get xs k)
 enumerate_at n k [] = refl
 enumerate_at n zero (x ∷ xs) = let e : n ≡ n + 0 = omega arith in ap (λ i. Some (i, x)) e
-enumerate_at n (suc k) (x ∷ xs) = let e : n + 1 + k ≡ n + suc k = omega arith in enumerate_at (n + 1) k xs ∙ ap (λ i. option_map (λ y. (i, y)) (slice_get xs k)) e
+enumerate_at n (suc k) (x ∷ xs) = let e : n + 1 + k ≡ n + suc k = omega arith in enumerate_at (n + 1) k xs
+    ∙ ap (λ i. option_map (λ y. (i, y)) (slice_get xs k)) e
 
-places_at : (f : FunId) (n : ℕ) (label : Label) (lines : List Line) → slice_get (base_places f n lines) label.0 ≡ option_map (base_place f n label) (option_map (λ line. line.instr) (slice_get lines label.0))
+places_at : (f : FunId) (n : ℕ) (label : Label) (lines : List Line) →
+    slice_get (base_places f n lines) label.0 ≡ option_map (base_place f n label) (option_map (λ line. line.instr) (slice_get lines label.0))
 unfolding base_places
 places_at f n label lines =
     slice_get-map (numbered_place f n) (enumerate_from 0 lines) label.0
     ∙ ap (option_map (numbered_place f n)) (enumerate_at 0 label.0 lines)
     ∙ by_line (slice_get lines label.0)
   where
-    by_line : (o : Option Line) → option_map (numbered_place f n) (option_map (λ x. (0 + label.0, x)) o) ≡ option_map (base_place f n label) (option_map (λ line. line.instr) o)
+    by_line : (o : Option Line) →
+        option_map (numbered_place f n) (option_map (λ x. (0 + label.0, x)) o) ≡ option_map (base_place f n label) (option_map (λ line. line.instr) o)
     by_line None = refl
     by_line (Some line) = let e : 0 + label.0 ≡ label.0 = omega arith in ap (λ i. Some (base_place f n (record { 0 = i }) line.instr)) e
 
 -- at each label stands the place of its base instruction
-pub base_place_at : (P : Program) (f : FunId) (label : Label) → place_at (base_code P f) label ≡ option_map (base_place f (reg_count P f) label) (instr_at P f label)
+pub base_place_at : (P : Program) (f : FunId) (label : Label) →
+    place_at (base_code P f) label ≡ option_map (base_place f (reg_count P f) label) (instr_at P f label)
 unfolding base_code base_places
 base_place_at P f label = by_function (function_at P f)
   where
-    by_function : (o : Option Function) → slice_get (base_places f (reg_count P f) (lines_of o)) label.0 ≡ option_map (base_place f (reg_count P f) label) (option_map (λ line. line.instr) (option_and_then (λ g. slice_get g.code label.0) o))
+    by_function : (o : Option Function) →
+        slice_get (base_places f (reg_count P f) (lines_of o)) label.0 ≡ option_map (base_place f (reg_count P f) label)
+        (option_map (λ line. line.instr) (option_and_then (λ g. slice_get g.code label.0) o))
     by_function None = refl
     by_function (Some g) = places_at f (reg_count P f) label g.code
 
@@ -120,7 +126,8 @@ pub base_places_none : (f : FunId) (n : ℕ) → base_places f n [] ≡ []
 unfolding base_places
 base_places_none f n = refl
 
-pub base_places_more : (f : FunId) (n : ℕ) (lines : List Line) (i : ℕ) (d : Line) → i < length lines → base_places f n (take (i + 1) lines) ≡ base_places f n (take i lines) ++ base_place f n (record { 0 = i }) (slice_index_or lines i d).instr ∷ []
+pub base_places_more : (f : FunId) (n : ℕ) (lines : List Line) (i : ℕ) (d : Line) → i < length lines →
+    base_places f n (take (i + 1) lines) ≡ base_places f n (take i lines) ++ base_place f n (record { 0 = i }) (slice_index_or lines i d).instr ∷ []
 unfolding base_places
 base_places_more f n lines i d h =
     let before = take i lines in
@@ -131,6 +138,7 @@ base_places_more f n lines i d h =
     ∙ map-append (numbered_place f n) (enumerate_from 0 before) ((0 + length before, line) ∷ [])
     ∙ ap (λ k. map (numbered_place f n) (enumerate_from 0 before) ++ base_place f n (record { 0 = k }) line.instr ∷ []) e
 
-pub base_code_of : (P : Program) (f : FunId) (g : Function) → function_at P f ≡ Some g → base_code P f ≡ record { function = f; regs = length g.regs; entry = record { 0 = 0 }; places = base_places f (length g.regs) g.code }
+pub base_code_of : (P : Program) (f : FunId) (g : Function) → function_at P f ≡ Some g →
+    base_code P f ≡ record { function = f; regs = length g.regs; entry = record { 0 = 0 }; places = base_places f (length g.regs) g.code }
 unfolding base_code
 base_code_of P f g e = ap (λ o. record { function = f; regs = regs_of o; entry = record { 0 = 0 }; places = base_places f (regs_of o) (lines_of o) }) e

@@ -17,7 +17,8 @@ use Rattle.cj_ir.specs.declared.language.Program.{Program}
 use Rattle.cj_ir.specs.declared.language.Instr.{Instr}
 use Rattle.cj_ir.specs.declared.language.Instr.TheVariants.{Nop, Op, Cond, Call, Return, Print, Load, Store, Fail}
 use Rattle.cj_base.specs.declared.machine.Frame.{Frame}
-use Rattle.cj_base.specs.Machine.{Stack, Fault, BadAddress, ZeroDivisor, Effect, On, Calls, Returns, Faults, with_value, cell, with_cell, op_effect, load_effect, store_effect, effect, entry_regs, entry_frame, waits, resumed, give, turn_by, base_turn}
+use Rattle.cj_base.specs.Machine.{Stack, Fault, BadAddress, ZeroDivisor, Effect, On, Calls, Returns, Faults, with_value, cell, with_cell, op_effect,
+    load_effect, store_effect, effect, entry_regs, entry_frame, waits, resumed, give, turn_by, base_turn}
 use Rattle.cj_base.specs.Same.{Same}
 use Rattle.cj_base.proofs.SameLaws.{same_refl}
 use Rattle.cj_base.proofs.FitsLemmas.{fine_at, Leads, effect_leads, entry_fits, instr_found, turn_is}
@@ -48,7 +49,8 @@ CallsOf P fr (Calls dest g args next) =
 CallsOf P fr (Returns x) = ⊤
 CallsOf P fr (Faults e) = ⊤
 
-value_calls : (P : Program) (fr : Frame) (o : Option ℤ) (fault : Fault) (go : ℤ → Effect) → ((v : ℤ) → CallsOf P fr (go v)) → CallsOf P fr (with_value o fault go)
+value_calls : (P : Program) (fr : Frame) (o : Option ℤ) (fault : Fault) (go : ℤ → Effect) → ((v : ℤ) → CallsOf P fr (go v)) →
+    CallsOf P fr (with_value o fault go)
 unfolding with_value
 value_calls P fr None fault go h = tt
 value_calls P fr (Some v) fault go h = h v
@@ -69,7 +71,8 @@ effect_calls P fr m (Store a x n) e =
     value_calls P fr (cell m address) (BadAddress address) (λ v. On n fr.regs (with_cell m address (operand_value fr.regs x)) []) (λ v. tt)
 effect_calls P fr m (Fail text) e = tt
 
-same_effect : (f : FunId) (l : Label) (regs m : List ℤ) (i : Instr) → version_effect (as_version f l i) regs m ≡ Plain (effect i (record { function = f; label = l; regs = regs }) m)
+same_effect : (f : FunId) (l : Label) (regs m : List ℤ) (i : Instr) →
+    version_effect (as_version f l i) regs m ≡ Plain (effect i (record { function = f; label = l; regs = regs }) m)
 unfolding version_effect as_version effect
 same_effect f l regs m (Nop n) = refl
 same_effect f l regs m (Op d e n) = refl
@@ -93,7 +96,8 @@ no_guard f l (Load d a n) = refl
 no_guard f l (Store a v n) = refl
 no_guard f l (Fail text) = refl
 
-instr_named : (P : Program) (f : FunId) (l : Label) (regs labels : ℕ) (i : Instr) → instr_at P f l ≡ Some i → IsInstrFine P.functions regs labels i → IsVInstrFine P regs labels (as_version f l i)
+instr_named : (P : Program) (f : FunId) (l : Label) (regs labels : ℕ) (i : Instr) → instr_at P f l ≡ Some i → IsInstrFine P.functions regs labels i →
+    IsVInstrFine P regs labels (as_version f l i)
 unfolding as_version
 instr_named P f l regs labels (Nop n) at fine = fine
 instr_named P f l regs labels (Op d e n) at fine = fine
@@ -109,7 +113,8 @@ instr_named P f l regs labels (Fail text) at fine = subst IsFailure (sym at) tt
 abbrev alone : FunId → Label → List ℤ → Stack
 alone f l regs = record { top = record { function = f; label = l; regs = regs }; waiting = [] }
 
-after_base_call : (P : Program) (f : FunId) (l : Label) (regs : List ℤ) (i : Instr) (next : Label) (x : ℤ) (s : Stack) → instr_at P f l ≡ Some i → returned_by (Some i) (alone f l regs) x ≡ s → after_call P (alone f l regs) x ≡ s
+after_base_call : (P : Program) (f : FunId) (l : Label) (regs : List ℤ) (i : Instr) (next : Label) (x : ℤ) (s : Stack) → instr_at P f l ≡ Some i →
+    returned_by (Some i) (alone f l regs) x ≡ s → after_call P (alone f l regs) x ≡ s
 unfolding after_call
 after_base_call P f l regs i next x s at e = ap (λ o. returned_by o (alone f l regs) x) at ∙ e
 
@@ -165,7 +170,8 @@ module _ (P : Program) (formed : IsWellFormed P) (f : FunId) (inside : f.0 < len
       record { arrives = arrives_at l regs within e; backs = no_pairs l (instr_found P f l within).0 regs }
 
   -- the effect of a base place, from the frame itself
-  effect_sound : (l : Label) (i : Instr) (regs m : List ℤ) → length regs ≡ n → (e : Effect) → base_turn P (alone f l regs) m ≡ turn_by P e (alone f l regs) m → Leads P f e → CallsOf P (record { function = f; label = l; regs = regs }) e → SoundEffect P the_code (base_place f n l i) regs m (Plain e)
+  effect_sound : (l : Label) (i : Instr) (regs m : List ℤ) → length regs ≡ n → (e : Effect) → base_turn P (alone f l regs) m ≡ turn_by P e (alone f l regs) m →
+      Leads P f e → CallsOf P (record { function = f; label = l; regs = regs }) e → SoundEffect P the_code (base_place f n l i) regs m (Plain e)
   unfolding turn_by give base_place returned_by resumed waits n
   effect_sound l i regs m all (On next regs' m' printed) t leads c =
       let r = resumes_at next regs' leads.0 leads.1 in
@@ -182,21 +188,25 @@ module _ (P : Program) (formed : IsWellFormed P) (f : FunId) (inside : f.0 < len
         resumes = λ x.
             let regs' : List ℤ = slice_set regs dest.0 x in
             let r = resumes_at next regs' leads.2 (length-set regs dest.0 x ∙ all) in
-            let after : after_call P (alone f l regs) x ≡ alone f next regs' = after_base_call P f l regs (Call dest g c.0 next) next x (alone f next regs') c.1 refl in
+            let after : after_call P (alone f l regs) x ≡ alone f next regs' = after_base_call P f l regs (Call dest g c.0 next) next x
+                (alone f next regs') c.1 refl in
             subst (λ s. Resumes P the_code next regs' (after_call P s x)) e
             (subst (λ s. Resumes P the_code next regs' s) (sym after) r);
       }
   effect_sound l i regs m all (Returns x) t leads c = ap (λ s. base_turn P s m) (frames_base l regs all) ∙ t
   effect_sound l i regs m all (Faults x) t leads c = ap (λ s. base_turn P s m) (frames_base l regs all) ∙ t
 
-  place_sound : (l : Label) (i : Instr) → instr_at P f l ≡ Some i → (regs m : List ℤ) → length regs ≡ n → SoundEffect P the_code (base_place f n l i) regs m (version_effect (as_version f l i) regs m)
+  place_sound : (l : Label) (i : Instr) → instr_at P f l ≡ Some i → (regs m : List ℤ) → length regs ≡ n →
+      SoundEffect P the_code (base_place f n l i) regs m (version_effect (as_version f l i) regs m)
   unfolding n
   place_sound l i at regs m all =
       let fr : Frame = record { function = f; label = l; regs = regs } in
       subst (SoundEffect P the_code (base_place f (reg_count P f) l i) regs m) (sym (same_effect f l regs m i))
-      (effect_sound l i regs m all (effect i fr m) (turn_is P (alone f l regs) m i at) (effect_leads P fr m i all (fine_at P formed f l i at)) (effect_calls P fr m i at))
+      (effect_sound l i regs m all (effect i fr m) (turn_is P (alone f l regs) m i at) (effect_leads P fr m i all (fine_at P formed f l i at))
+          (effect_calls P fr m i at))
 
-  any_place : (l : Label) (p : Place) → place_at the_code l ≡ Some p → (regs m : List ℤ) → Admits the_code p regs → SoundEffect P the_code p regs m (version_effect p.instr regs m)
+  any_place : (l : Label) (p : Place) → place_at the_code l ≡ Some p → (regs m : List ℤ) → Admits the_code p regs →
+      SoundEffect P the_code p regs m (version_effect p.instr regs m)
   unfolding the_code base_code base_place n
   any_place l p at regs m fit =
       let r = instr_at_place l p at in
@@ -287,6 +297,7 @@ module _ (P : Program) (formed : IsWellFormed P) (f : FunId) (inside : f.0 < len
     rows = row_short 7;
   }
 
-pub base_body_sound : (P : Program) → IsWellFormed P → (f : FunId) → f.0 < length P.functions → (context : List Fact) → Sound P context (base_code P f).function (base_code P f)
+pub base_body_sound : (P : Program) → IsWellFormed P → (f : FunId) → f.0 < length P.functions → (context : List Fact) →
+    Sound P context (base_code P f).function (base_code P f)
 unfolding base_code
 base_body_sound P formed f inside context = base_sound P formed f inside context

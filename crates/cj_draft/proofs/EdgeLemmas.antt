@@ -68,7 +68,8 @@ module _ (P : Program) (regs n : ℕ) where
   successor_within i y h c = All-contains (λ (z : Label). z.0 < n) (successors i) y (successors_within i h) c
 
   -- edges that are led within a code of another length
-  pub relabel_fine : (r : Label → Label) (n' : ℕ) (i : VInstr) → ((y : Label) → Contains (successors i) y → (r y).0 < n') → IsVInstrFine P regs n i → IsVInstrFine P regs n' (relabel r i)
+  pub relabel_fine : (r : Label → Label) (n' : ℕ) (i : VInstr) → ((y : Label) → Contains (successors i) y → (r y).0 < n') → IsVInstrFine P regs n i →
+      IsVInstrFine P regs n' (relabel r i)
   unfolding successors relabel
   relabel_fine r n' (Nop x) w h = w x (contains-head x [])
   relabel_fine r n' (Op d e x) w h = (h.0, h.1, w x (contains-head x []))

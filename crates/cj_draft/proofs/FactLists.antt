@@ -1,5 +1,6 @@
 -- Facts and the lists of registers that satisfy them.
-use Rattle.std.proofs.Common.{◌≡◌, ◌≢◌, ℕ, suc, ◌<◌, ◌⊎◌, List, [], ◌∷◌, length, map, replicate, refl, sym, ap, ap₂, ◌∙◌, subst, arith, inl, inr, ⊎_elim, length-set}
+use Rattle.std.proofs.Common.{◌≡◌, ◌≢◌, ℕ, suc, ◌<◌, ◌⊎◌, List, [], ◌∷◌, length, map, replicate, refl, sym, ap, ap₂, ◌∙◌, subst, arith, inl, inr, ⊎_elim,
+    length-set}
 use Rattle.std.specs.Prelude.{ℤ, pos, ◌+ℤ◌, All, slice_index_or, slice_set, ⊤}
 use Rattle.std.specs.List.{Contains, AllPairs}
 use Rattle.std.specs.List.Sorted.{IsStrictlyIncreasing}
@@ -41,7 +42,8 @@ differ_from : (facts : List Fact) → AllPairs (λ x y. x < y) (numbers facts) �
 differ_from [] rise = tt
 differ_from (x ∷ facts) rise = (
   (λ k d h e.
-      let low : x.reg.0 < slice_index_or (numbers facts) k d.reg.0 = rise 0 (suc k) d.reg.0 (omega arith) (omega (arith, length-map facts (λ (z : Fact). z.reg.0))) in
+      let low : x.reg.0 < slice_index_or (numbers facts) k d.reg.0 = rise 0 (suc k) d.reg.0 (omega arith)
+          (omega (arith, length-map facts (λ (z : Fact). z.reg.0))) in
       let same = get_or-map (λ (z : Fact). z.reg.0) facts k d in
       omega arith),
   differ_from facts (λ i j d lt h. rise (suc i) (suc j) d (omega arith) (omega arith)),
@@ -52,7 +54,9 @@ differ-from_increasing facts up = differ_from facts (AllPairs-from_increasing (n
 
 -- ---- facts in range can be satisfied
 
-filled_keeps : (x : Fact) (facts : List Fact) (regs : List ℤ) → All (λ y. y.reg.0 ≢ x.reg.0) facts → (all : List Fact) → ((y : Fact) → Contains facts y → register (filled all regs) y.reg.0 ≡ y.value) → (y : Fact) → Contains facts y → register (slice_set (filled all regs) x.reg.0 x.value) y.reg.0 ≡ y.value
+filled_keeps : (x : Fact) (facts : List Fact) (regs : List ℤ) → All (λ y. y.reg.0 ≢ x.reg.0) facts → (all : List Fact) →
+    ((y : Fact) → Contains facts y → register (filled all regs) y.reg.0 ≡ y.value) → (y : Fact) → Contains facts y →
+    register (slice_set (filled all regs) x.reg.0 x.value) y.reg.0 ≡ y.value
 filled_keeps x facts regs differ all h y c =
     get_or-set_other (filled all regs) x.reg.0 y.reg.0 x.value (pos 0) (All-contains (λ z. z.reg.0 ≢ x.reg.0) facts y differ c) ∙ h y c
 
@@ -104,12 +108,14 @@ fact_of (x ∷ facts) r = ⊎_elim
 next_differs : (v : ℤ) → v +ℤ pos 1 ≡ v → ⊥
 next_differs v e = omega (arith, ints)
 
-one_entailed : (n : ℕ) (known : List Fact) (x : Fact) → AreFactsFine n known → x.reg.0 < n → ((regs : List ℤ) → length regs ≡ n → Satisfies known regs → register regs x.reg.0 ≡ x.value) → Contains known x
+one_entailed : (n : ℕ) (known : List Fact) (x : Fact) → AreFactsFine n known → x.reg.0 < n →
+    ((regs : List ℤ) → length regs ≡ n → Satisfies known regs → register regs x.reg.0 ≡ x.value) → Contains known x
 one_entailed n known x fine within tells =
     let base : List ℤ = replicate n (x.value +ℤ pos 1) in
     let count : length base ≡ n = length-replicate n (x.value +ℤ pos 1) in
     let regs : List ℤ = filled known base in
-    let satisfied : Satisfies known regs = filled_satisfies known base (differ-from_increasing known fine.increasing) (subst (λ k. All (λ y. y.reg.0 < k) known) (sym count) fine.registers) in
+    let satisfied : Satisfies known regs = filled_satisfies known base (differ-from_increasing known fine.increasing)
+        (subst (λ k. All (λ y. y.reg.0 < k) known) (sym count) fine.registers) in
     let told : register regs x.reg.0 ≡ x.value = tells regs (length-filled known base ∙ count) satisfied in
     ⊎_elim
     (λ h.
@@ -124,13 +130,15 @@ one_entailed n known x fine within tells =
     fact r v = record { reg = record { 0 = r }; value = v }
 
 -- facts that hold of every list of registers which satisfies the known ones are among these
-pub entailed : (n : ℕ) (known facts : List Fact) → AreFactsFine n known → All (λ x. x.reg.0 < n) facts → ((regs : List ℤ) → length regs ≡ n → Satisfies known regs → Satisfies facts regs) → All (Contains known) facts
+pub entailed : (n : ℕ) (known facts : List Fact) → AreFactsFine n known → All (λ x. x.reg.0 < n) facts →
+    ((regs : List ℤ) → length regs ≡ n → Satisfies known regs → Satisfies facts regs) → All (Contains known) facts
 entailed n known facts fine within tells = all-from_contains (Contains known) facts (λ x c.
     one_entailed n known x fine (All-contains (λ y. y.reg.0 < n) facts x within c)
     (λ regs count satisfied. All-contains (λ y. register regs y.reg.0 ≡ y.value) facts x (tells regs count satisfied) c))
 
 -- Facts that hold wherever facts of the context hold are of the context.
-pub among-allowed : (n : ℕ) (context : List Fact) (old new : Facts) → AreAmong context old → HasFineFacts n old → HasFineFacts n new → ((regs : List ℤ) → length regs ≡ n → Allows old regs → Allows new regs) → AreAmong context new
+pub among-allowed : (n : ℕ) (context : List Fact) (old new : Facts) → AreAmong context old → HasFineFacts n old → HasFineFacts n new →
+    ((regs : List ℤ) → length regs ≡ n → Allows old regs → Allows new regs) → AreAmong context new
 among-allowed n context Unreached new among fine fine' h = absurd among
 among-allowed n context (Known old) Unreached among fine fine' h = let found = satisfiable n old fine in h found.0 found.1 found.2
 among-allowed n context (Known old) (Known new) among fine fine' h =

@@ -38,9 +38,11 @@ pub record IsImmediate (code code' : Code) (a s : Label) (anchor : Place) (guard
   pub instr : anchor.instr ≡ Anchor number target next
   pub fresh : place_at code' s ≡ Some (assume_after guards number target next anchor)
   pub kept : KeepsPlaces code code'
-  pub back : (x : Label) (p' : Place) → place_at code' x ≡ Some p' → (place_at code x ≡ Some p') ⊎ ((anchor_to s number target anchor ≡ p') ⊎ (assume_after guards number target next anchor ≡ p'))
+  pub back : (x : Label) (p' : Place) → place_at code' x ≡ Some p' →
+      (place_at code x ≡ Some p') ⊎ ((anchor_to s number target anchor ≡ p') ⊎ (assume_after guards number target next anchor ≡ p'))
 
-module _ (P : Program) (context : List Fact) (f : FunId) (code code' : Code) (a s : Label) (anchor : Place) (guards : List Guard) (number : ℕ) (target : Point) (next : Label) (sound : Sound P context f code) (imm : IsImmediate code code' a s anchor guards number target next) where
+module _ (P : Program) (context : List Fact) (f : FunId) (code code' : Code) (a s : Label) (anchor : Place) (guards : List Guard) (number : ℕ) (target : Point)
+    (next : Label) (sound : Sound P context f code) (imm : IsImmediate code code' a s anchor guards number target next) where
   guard_at : (regs : List ℤ) → Admits code anchor regs → StepsGuarded P code anchor regs true number target next
   unfolding version_effect
   guard_at regs fit = subst (λ i. SoundEffect P code anchor regs [] (version_effect i regs [])) imm.instr (sound.places a anchor imm.at regs [] fit)
@@ -52,27 +54,32 @@ module _ (P : Program) (context : List Fact) (f : FunId) (code code' : Code) (a 
   of_anchor p regs h e = record { count = h.count; facts = subst (λ z. Allows z regs) e h.facts }
 
   -- the Anchor goes on to the fresh Assume
-  anchor_sound : (regs m : List ℤ) → Admits code anchor regs → let p' : Place = anchor_to s number target anchor in SoundEffect P code' p' regs m (version_effect p'.instr regs m)
+  anchor_sound : (regs m : List ℤ) → Admits code anchor regs →
+      let p' : Place = anchor_to s number target anchor in SoundEffect P code' p' regs m (version_effect p'.instr regs m)
   unfolding version_effect anchor_to assume_after
   anchor_sound regs m fit =
       let g = guard_at regs fit in
       record {
         target_in = g.target_in;
         passes = λ h. record {
-          arrives = record { place = assume_after guards number target next anchor; at = imm.fresh; admits = record { count = fit.count ∙ imm.regs; facts = fit.facts }; same = same_refl P (frames_of P anchor.point regs) };
+          arrives = record { place = assume_after guards number target next anchor; at = imm.fresh;
+              admits = record { count = fit.count ∙ imm.regs; facts = fit.facts }; same = same_refl P (frames_of P anchor.point regs) };
           equal = refl;
           backs = λ q c. inr c;
         };
       }
 
   -- the fresh Assume goes on where the Anchor went
-  assume_sound : (regs m : List ℤ) → Admits code anchor regs → let p' : Place = assume_after guards number target next anchor in SoundEffect P code' p' regs m (version_effect p'.instr regs m)
+  assume_sound : (regs m : List ℤ) → Admits code anchor regs →
+      let p' : Place = assume_after guards number target next anchor in SoundEffect P code' p' regs m (version_effect p'.instr regs m)
   unfolding version_effect assume_after IsSilentIn
   assume_sound regs m fit =
       let p' : Place = assume_after guards number target next anchor in
       let g = guard_at regs fit in
       let same : Grown anchor p' = record { point = refl; backs = λ q c. c; silent = λ i. absurd (not_silent (subst IsSilentIn imm.instr i)) } in
-      guarded_way P code code' anchor p' regs (guards_hold regs guards) number target next next same (λ h st r. same_way P code code' imm.regs imm.kept (λ q. Contains p'.backs q) regs st next r) (record { target_in = g.target_in; passes = λ h. g.passes refl })
+      guarded_way P code code' anchor p' regs (guards_hold regs guards) number target next next same
+          (λ h st r. same_way P code code' imm.regs imm.kept (λ q. Contains p'.backs q) regs st next r)
+          (record { target_in = g.target_in; passes = λ h. g.passes refl })
     where
       not_silent : IsSilentIn (Anchor number target next) → ⊥
       not_silent i = i
@@ -85,15 +92,21 @@ module _ (P : Program) (context : List Fact) (f : FunId) (code code' : Code) (a 
     entry_facts = same_entry_facts P code code' imm.regs imm.kept context sound.named imm.entry sound.entry_facts;
     entry = λ args takes satisfied.
         let st : Stack = record { top = entry_frame P f args; waiting = [] } in
-        let w = resumes_way P code code' code.entry code.entry (entry_regs code.regs args) st (λ r. same_way P code code' imm.regs imm.kept (λ q. ⊥) (entry_regs code.regs args) st code.entry r) (sound.entry args takes satisfied) in
-        subst (λ e. Resumes P code' e (entry_regs code'.regs args) st) (sym imm.entry) (subst (λ n. Resumes P code' code.entry (entry_regs n args) st) imm.regs w);
+        let w = resumes_way P code code' code.entry code.entry (entry_regs code.regs args) st
+            (λ r. same_way P code code' imm.regs imm.kept (λ q. ⊥) (entry_regs code.regs args) st code.entry r) (sound.entry args takes satisfied) in
+        subst (λ e. Resumes P code' e (entry_regs code'.regs args) st) (sym imm.entry)
+            (subst (λ n. Resumes P code' code.entry (entry_regs n args) st) imm.regs w);
     places = λ x p' at regs m fit. ⊎_elim
         (λ old.
         let e = version_effect p'.instr regs m in
-        subst (SoundEffect P code' p' regs m) (relabel-same e) (effect_way P code code' (λ z. z) p' p' regs m e (grown-same p') (same_ways P code code' imm.regs imm.kept p' regs e) (sound.places x p' old regs m (admits_old p' regs fit))))
+        subst (SoundEffect P code' p' regs m) (relabel-same e)
+            (effect_way P code code' (λ z. z) p' p' regs m e (grown-same p') (same_ways P code code' imm.regs imm.kept p' regs e)
+            (sound.places x p' old regs m (admits_old p' regs fit))))
         (λ new. ⊎_elim
-        (λ e. subst (λ z. SoundEffect P code' z regs m (version_effect z.instr regs m)) e (anchor_sound regs m (of_anchor p' regs (admits_old p' regs fit) (ap (λ z. z.facts) (sym e)))))
-        (λ e. subst (λ z. SoundEffect P code' z regs m (version_effect z.instr regs m)) e (assume_sound regs m (of_anchor p' regs (admits_old p' regs fit) (ap (λ z. z.facts) (sym e)))))
+        (λ e. subst (λ z. SoundEffect P code' z regs m (version_effect z.instr regs m)) e
+            (anchor_sound regs m (of_anchor p' regs (admits_old p' regs fit) (ap (λ z. z.facts) (sym e)))))
+        (λ e. subst (λ z. SoundEffect P code' z regs m (version_effect z.instr regs m)) e
+            (assume_sound regs m (of_anchor p' regs (admits_old p' regs fit) (ap (λ z. z.facts) (sym e)))))
         new)
         (imm.back x p' at);
     rows = rows;

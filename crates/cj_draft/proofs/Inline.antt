@@ -1,5 +1,6 @@
 -- Inlining keeps that a code is sound.
-use Rattle.std.proofs.Common.{◌≡◌, ℕ, ◌+◌, ◌-◌, ◌≤◌, ◌⊎◌, List, [], ◌++◌, length, map, take, drop, replicate, Some, sym, ap, ap₂, ◌∙◌, subst, arith, inl, ⊎_elim}
+use Rattle.std.proofs.Common.{◌≡◌, ℕ, ◌+◌, ◌-◌, ◌≤◌, ◌⊎◌, List, [], ◌++◌, length, map, take, drop, replicate, Some, sym, ap, ap₂, ◌∙◌, subst, arith, inl,
+    ⊎_elim}
 use Rattle.std.specs.Prelude.{ℤ, pos, slice_set}
 use Rattle.std.proofs.lemmas.List.{length-append, length-map, length-replicate, length-take-le, length-drop, take-append-drop, append-nil, set-append_left}
 use Rattle.std.proofs.lemmas.List.Elements.{All-nil}
@@ -38,11 +39,19 @@ pub record IsInlining (P : Program) (code D code' : Code) (c : Label) (cp : Plac
   pub entry : code'.entry ≡ code.entry
   pub at_c : place_at code c ≡ Some cp
   pub instr : cp.instr ≡ Call dest g args next
-  pub kept : (x : Label) (p : Place) → place_at code x ≡ Some p → (p' : Place) × (place_at code' x ≡ Some p') × (p.point ≡ p'.point) × (p.facts ≡ p'.facts) × (p.backs ≡ p'.backs)
-  pub callee : (x : Label) (p : Place) → place_at D x ≡ Some p → (p' : Place) × (place_at code' (shift_label (length code.places) x) ≡ Some p') × IsInlined code.regs (length code.places) (appended_frames P cp.point.frames) dest next p p' × (p'.facts ≡ joined_facts code.regs cp.facts p.facts)
-  pub back : (y : Label) (p' : Place) → place_at code' y ≡ Some p' → (place_at code y ≡ Some p') ⊎ ((p' ≡ call_place code.regs D.regs (shift_label (length code.places) D.entry) args cp) ⊎ ((x : Label) × (p : Place) × (y ≡ shift_label (length code.places) x) × (place_at D x ≡ Some p)))
+  pub kept : (x : Label) (p : Place) → place_at code x ≡ Some p →
+      (p' : Place) × (place_at code' x ≡ Some p') × (p.point ≡ p'.point) × (p.facts ≡ p'.facts) × (p.backs ≡ p'.backs)
+  pub callee : (x : Label) (p : Place) → place_at D x ≡ Some p →
+      (p' : Place) × (place_at code' (shift_label (length code.places) x) ≡ Some p')
+      × IsInlined code.regs (length code.places) (appended_frames P cp.point.frames) dest next p p' × (p'.facts ≡ joined_facts code.regs cp.facts p.facts)
+  pub back : (y : Label) (p' : Place) → place_at code' y ≡ Some p' →
+      (place_at code y ≡ Some p') ⊎
+      ((p' ≡ call_place code.regs D.regs (shift_label (length code.places) D.entry) args cp) ⊎
+      ((x : Label) × (p : Place) × (y ≡ shift_label (length code.places) x) × (place_at D x ≡ Some p)))
 
-module _ (P : Program) (formed : IsWellFormed P) (context : List Fact) (f g : FunId) (code D code' : Code) (sound : Sound P context f code) (sound_D : Sound P [] g D) (c : Label) (cp : Place) (dest : Reg) (args : List Operand) (next : Label) (ins : IsInlining P code D code' c cp dest g args next) where
+module _ (P : Program) (formed : IsWellFormed P) (context : List Fact) (f g : FunId) (code D code' : Code) (sound : Sound P context f code)
+    (sound_D : Sound P [] g D) (c : Label) (cp : Place) (dest : Reg) (args : List Operand) (next : Label)
+    (ins : IsInlining P code D code' c cp dest g args next) where
   k : ℕ
   k = length code.places
 
@@ -62,7 +71,8 @@ module _ (P : Program) (formed : IsWellFormed P) (context : List Fact) (f g : Fu
   unfolding version_effect
   call_step a m fit = subst (λ i. SoundEffect P code cp a m (version_effect i a m)) ins.instr (sound.places c cp ins.at_c a m fit)
 
-  callee_facts : (x : Label) (p p' : Place) → place_at D x ≡ Some p → place_at code' (shift_label (length code.places) x) ≡ Some p' → p'.facts ≡ joined_facts code.regs cp.facts p.facts
+  callee_facts : (x : Label) (p p' : Place) → place_at D x ≡ Some p → place_at code' (shift_label (length code.places) x) ≡ Some p' →
+      p'.facts ≡ joined_facts code.regs cp.facts p.facts
   callee_facts x p p' at at' =
       let r = ins.callee x p at in
       ap (λ z. z.facts) (same_Some p' r.0 (sym at' ∙ r.1)) ∙ r.3
@@ -77,7 +87,8 @@ module _ (P : Program) (formed : IsWellFormed P) (context : List Fact) (f g : Fu
         admits = λ x p p' b at at' h. record {
           count = length-append a b ∙ ap₂ (λ u v. u + v) fit.count h.count ∙ sym ins.regs;
           facts =
-              let e : p'.facts ≡ joined_facts (length a) cp.facts p.facts = callee_facts x p p' at at' ∙ ap (λ n. joined_facts n cp.facts p.facts) (sym fit.count) in
+              let e : p'.facts ≡ joined_facts (length a) cp.facts p.facts = callee_facts x p p' at at'
+                  ∙ ap (λ n. joined_facts n cp.facts p.facts) (sym fit.count) in
               subst (λ z. Allows z (a ++ b)) (sym e) ((allows_joined a b cp.facts p.facts fine.facts).1 (fit.facts, h.facts));
         };
         below = λ b. appended_is P a b cp.point fine.point;
@@ -90,20 +101,24 @@ module _ (P : Program) (formed : IsWellFormed P) (context : List Fact) (f g : Fu
       subst (λ n. Takes P.functions g n) (sym (length-map call.operands (operand_value top.regs)) ∙ ap length call.values) fine.1
 
   -- the move at c
-  call_sound : (a b m : List ℤ) → Admits code cp a → length b ≡ D.regs → let p' : Place = call_place code.regs D.regs (shift_label (length code.places) D.entry) args cp in SoundEffect P code' p' (a ++ b) m (version_effect p'.instr (a ++ b) m)
+  call_sound : (a b m : List ℤ) → Admits code cp a → length b ≡ D.regs →
+      let p' : Place = call_place code.regs D.regs (shift_label (length code.places) D.entry) args cp in SoundEffect P code' p' (a ++ b) m
+      (version_effect p'.instr (a ++ b) m)
   unfolding call_place version_effect over k tail
   call_sound a b m fit nb =
       let fine = fine_over a c cp fit.count ins.at_c in
       let s = call_step a m fit in
       let values = map (operand_value a) args in
       let takes = takes_of a s.call in
-      let few : length values ≤ D.regs = params_within P D (length values) sound_D.named (subst (λ z. Takes P.functions z (length values)) (sym sound_D.function) takes) in
+      let few : length values ≤ D.regs = params_within P D (length values) sound_D.named
+          (subst (λ z. Takes P.functions z (length values)) (sym sound_D.function) takes) in
       let short : length args ≤ length b = omega (arith, length-map args (operand_value a)) in
       let ws = left_waiting P (frames_of P cp.point a) in
       let st : Stack = record { top = entry_frame P g values; waiting = [] } in
       let regs' = entry_regs D.regs values in
       let none : Satisfies [] values = All-nil (λ fact. register values fact.reg.0 ≡ fact.value) in
-      let r = resumes_in P D code' a (length code.places) (appended_frames P cp.point.frames) ws dest next (holds a fit) D.entry regs' st (sound_D.entry values takes none) in
+      let r = resumes_in P D code' a (length code.places) (appended_frames P cp.point.frames) ws dest next (holds a fit) D.entry regs' st
+          (sound_D.entry values takes none) in
       let in_call = subst (λ i. IsVInstrFine P (length a) (length code.places) i) ins.instr fine.instr in
       let e0 = entry_move_is args a b short in_call.2 in
       let e : a ++ regs' ≡ moved (a ++ b) (entry_pairs code.regs args D.regs) (a ++ b) =
@@ -121,7 +136,8 @@ module _ (P : Program) (formed : IsWellFormed P) (context : List Fact) (f g : Fu
       subst (λ z. StepsOn P code' p' (a ++ b) m to z m []) e step
 
   -- a place of the callee
-  callee_sound : (a b m : List ℤ) (x : Label) (p p' : Place) → Admits code cp a → Admits D p b → place_at D x ≡ Some p → IsInlined code.regs k tail dest next p p' → SoundEffect P code' p' (a ++ b) m (version_effect p'.instr (a ++ b) m)
+  callee_sound : (a b m : List ℤ) (x : Label) (p p' : Place) → Admits code cp a → Admits D p b → place_at D x ≡ Some p →
+      IsInlined code.regs k tail dest next p p' → SoundEffect P code' p' (a ++ b) m (version_effect p'.instr (a ++ b) m)
   unfolding k tail
   callee_sound a b m x p p' fit fit_b at is =
       let fine = fine_over a c cp fit.count ins.at_c in
@@ -135,20 +151,24 @@ module _ (P : Program) (formed : IsWellFormed P) (context : List Fact) (f g : Fu
         over (after_call P st v) [],
         back,
         subst (λ z. Resumes P code' next z (over (after_call P st v) [])) (sym (set-append_left a b dest.0 v in_call.0))
-            (subst (λ z. Resumes P code' next (slice_set a dest.0 v ++ b) z) (sym (over_nil (after_call P st v))) (resumes_wider P code code' b (room (length b) fit_b.count) next (slice_set a dest.0 v) (after_call P st v) (s.resumes v))),
+            (subst (λ z. Resumes P code' next (slice_set a dest.0 v ++ b) z) (sym (over_nil (after_call P st v)))
+                (resumes_wider P code code' b (room (length b) fit_b.count) next (slice_set a dest.0 v) (after_call P st v) (s.resumes v))),
       ))
       (subst (λ n. IsInlined n (length code.places) (appended_frames P cp.point.frames) dest next p p') (sym fit.count) is)
       (sound_D.places x p at b m fit_b)
 
   -- a place of the caller
-  caller_sound : (a b m : List ℤ) (y : Label) (p : Place) → place_at code y ≡ Some p → length b ≡ D.regs → Admits code p a → SoundEffect P code' p (a ++ b) m (version_effect p.instr (a ++ b) m)
+  caller_sound : (a b m : List ℤ) (y : Label) (p : Place) → place_at code y ≡ Some p → length b ≡ D.regs → Admits code p a →
+      SoundEffect P code' p (a ++ b) m (version_effect p.instr (a ++ b) m)
   caller_sound a b m y p at nb fit =
       let fine = fine_over a y p fit.count at in
       subst (SoundEffect P code' p (a ++ b) m) (sym (effect-extend P (length code.places) a b m p.instr fine.instr))
-      (effect_wider P code code' b (room (length b) nb) p a m fine (version_effect p.instr a m) (dest_within P (length a) (length code.places) p.instr a m fine.instr) (sound.places y p at a m fit))
+      (effect_wider P code code' b (room (length b) nb) p a m fine (version_effect p.instr a m)
+          (dest_within P (length a) (length code.places) p.instr a m fine.instr) (sound.places y p at a m fit))
 
   -- registers of the new code, in two parts
-  any_sound : (y : Label) (p' : Place) → place_at code' y ≡ Some p' → (a b m : List ℤ) → length a ≡ code.regs → length b ≡ D.regs → Allows p'.facts (a ++ b) → SoundEffect P code' p' (a ++ b) m (version_effect p'.instr (a ++ b) m)
+  any_sound : (y : Label) (p' : Place) → place_at code' y ≡ Some p' → (a b m : List ℤ) → length a ≡ code.regs → length b ≡ D.regs → Allows p'.facts (a ++ b) →
+      SoundEffect P code' p' (a ++ b) m (version_effect p'.instr (a ++ b) m)
   unfolding call_place k tail
   any_sound y p' at a b m na nb facts = ⊎_elim
       (λ old.
@@ -198,6 +218,7 @@ module _ (P : Program) (formed : IsWellFormed P) (context : List Fact) (f g : Fu
         let nb0 : length b ≡ length regs - code.regs = length-drop code.regs regs in
         let nb : length b ≡ D.regs = nb0 ∙ (omega arith) in
         let e : a ++ b ≡ regs = take-append-drop code.regs regs in
-        subst (λ z. SoundEffect P code' p' z m (version_effect p'.instr z m)) e (any_sound y p' at a b m na nb (subst (λ z. Allows p'.facts z) (sym e) fit.facts));
+        subst (λ z. SoundEffect P code' p' z m (version_effect p'.instr z m)) e
+            (any_sound y p' at a b m na nb (subst (λ z. Allows p'.facts z) (sym e) fit.facts));
     rows = rows;
   }

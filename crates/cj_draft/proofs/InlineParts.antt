@@ -1,5 +1,6 @@
 -- The parts of inlining: the call that goes, the move that enters the callee, the frames that are appended, and the facts.
-use Rattle.std.proofs.Common.{◌≡◌, ℕ, zero, suc, ◌+◌, ◌-◌, ◌<◌, ◌≤◌, List, [], ◌∷◌, ◌++◌, length, map, replicate, Option, Some, None, refl, sym, ap, ap₂, ◌∙◌, subst, arith}
+use Rattle.std.proofs.Common.{◌≡◌, ℕ, zero, suc, ◌+◌, ◌-◌, ◌<◌, ◌≤◌, List, [], ◌∷◌, ◌++◌, length, map, replicate, Option, Some, None, refl, sym, ap, ap₂, ◌∙◌,
+    subst, arith}
 use Rattle.std.specs.Prelude.{ℤ, pos, All, ◌↔◌, IsSomeAnd}
 use Rattle.std.proofs.lemmas.List.{length-append, set_at, append_assoc}
 use Rattle.std.proofs.lemmas.List.Elements.{All-head, All-tail, All-append}
@@ -39,21 +40,25 @@ params_within P code n named takes =
 -- ---- a call of the base body
 
 -- the turn of a stack at a call
-pub call_turn : (P : Program) (st : Stack) (f : FunId) (args : List ℤ) → IsAtCall P st f args → (m : List ℤ) → base_turn P st m ≡ Goes [] (record { stack = record { top = entry_frame P f args; waiting = left_waiting P st }; memory = m })
+pub call_turn : (P : Program) (st : Stack) (f : FunId) (args : List ℤ) → IsAtCall P st f args → (m : List ℤ) →
+    base_turn P st m ≡ Goes [] (record { stack = record { top = entry_frame P f args; waiting = left_waiting P st }; memory = m })
 unfolding base_turn turn_at turn_by effect left_waiting left_by
 call_turn P st f args c m =
     subst (λ i. turn_at P i st m ≡ Goes [] (record { stack = record { top = entry_frame P f args; waiting = left_by i st }; memory = m })) (sym c.at)
     (ap (λ xs. Goes [] (record { stack = record { top = entry_frame P f xs; waiting = waits st.top c.next c.dest ∷ st.waiting }; memory = m })) c.values)
 
 -- a value that the called function returns
-pub give_left : (P : Program) (st : Stack) (f : FunId) (args : List ℤ) → IsAtCall P st f args → (x : ℤ) (below : List Waiting) (m : List ℤ) → give x (left_waiting P st ++ below) m ≡ Goes [] (record { stack = over (after_call P st x) below; memory = m })
+pub give_left : (P : Program) (st : Stack) (f : FunId) (args : List ℤ) → IsAtCall P st f args → (x : ℤ) (below : List Waiting) (m : List ℤ) →
+    give x (left_waiting P st ++ below) m ≡ Goes [] (record { stack = over (after_call P st x) below; memory = m })
 unfolding left_waiting left_by after_call returned_by over give
 give_left P st f args c x below m =
     subst (λ i. give x (left_by i st ++ below) m ≡ Goes [] (record { stack = over (returned_by i st x) below; memory = m })) (sym c.at) refl
 
 -- ---- the appended frames
 
-appended_is_by : (P : Program) (a b : List ℤ) (f : PointFrame) (fs : List PointFrame) (o : Option Instr) → IsPointFrameFine P (length a) f → All (IsPointFrameFine P (length a)) fs → map (waiting_of P (a ++ b)) (appended_by o f fs) ≡ left_by o (record { top = top_of P a f; waiting = map (waiting_of P a) fs })
+appended_is_by : (P : Program) (a b : List ℤ) (f : PointFrame) (fs : List PointFrame) (o : Option Instr) → IsPointFrameFine P (length a) f →
+    All (IsPointFrameFine P (length a)) fs →
+    map (waiting_of P (a ++ b)) (appended_by o f fs) ≡ left_by o (record { top = top_of P a f; waiting = map (waiting_of P a) fs })
 unfolding appended_by left_by waits top_of waiting_of frame_regs
 appended_is_by P a b f fs (Some (Call d g args next)) one rest =
     ap₂ (λ x xs. record { function = f.function; label = next; regs = x; dest = d } ∷ xs) (operands_left a b f.map one.operands) (waiting_left P a b fs rest)
@@ -67,14 +72,17 @@ appended_is_by P a b f fs (Some (Store x v n)) one rest = refl
 appended_is_by P a b f fs (Some (Fail text)) one rest = refl
 appended_is_by P a b f fs None one rest = refl
 
-appended_of : (P : Program) (a b : List ℤ) (fs : List PointFrame) → 0 < length fs → All (IsPointFrameFine P (length a)) fs → map (waiting_of P (a ++ b)) (appended_frames P fs) ≡ left_waiting P (stack_of P fs a)
+appended_of : (P : Program) (a b : List ℤ) (fs : List PointFrame) → 0 < length fs → All (IsPointFrameFine P (length a)) fs →
+    map (waiting_of P (a ++ b)) (appended_frames P fs) ≡ left_waiting P (stack_of P fs a)
 unfolding appended_frames left_waiting stack_of top_of
 appended_of P a b [] some all = absurd (omega arith)
 appended_of P a b (f ∷ fs) some all =
-    appended_is_by P a b f fs (instr_at P f.function f.label) (All-head (IsPointFrameFine P (length a)) f fs all) (All-tail (IsPointFrameFine P (length a)) f fs all)
+    appended_is_by P a b f fs (instr_at P f.function f.label) (All-head (IsPointFrameFine P (length a)) f fs all)
+        (All-tail (IsPointFrameFine P (length a)) f fs all)
 
 -- they are the frames that wait while the call of the point runs
-pub appended_is : (P : Program) (a b : List ℤ) (p : Point) → IsPointFine P (length a) p → map (waiting_of P (a ++ b)) (appended_frames P p.frames) ≡ left_waiting P (frames_of P p a)
+pub appended_is : (P : Program) (a b : List ℤ) (p : Point) → IsPointFine P (length a) p →
+    map (waiting_of P (a ++ b)) (appended_frames P p.frames) ≡ left_waiting P (frames_of P p a)
 unfolding frames_of
 appended_is P a b p fine = appended_of P a b p.frames fine.some_frame fine.frames
 
@@ -88,7 +96,8 @@ entry_values (o ∷ os) (suc n) regs = operand_value regs o ∷ entry_values os 
 push_seam : (front : List ℤ) (v : ℤ) (ys : List ℤ) → front ++ v ∷ [] ++ ys ≡ front ++ v ∷ ys
 push_seam front v ys = append_assoc front (v ∷ []) ys
 
-entry_moved : (os : List Operand) (regs front rest : List ℤ) → moved regs (entry_pairs (length front) os (length rest)) (front ++ rest) ≡ front ++ entry_values os (length rest) regs
+entry_moved : (os : List Operand) (regs front rest : List ℤ) →
+    moved regs (entry_pairs (length front) os (length rest)) (front ++ rest) ≡ front ++ entry_values os (length rest) regs
 unfolding moved entry_pairs entry_values
 entry_moved os regs front [] = refl
 entry_moved [] regs front (y ∷ ys) =
@@ -120,7 +129,8 @@ values_entry (o ∷ os) (suc n) regs h =
     ap (λ z. operand_value regs o ∷ z) (values_entry os n regs (omega arith)) ∙ ap (λ k. operand_value regs o ∷ (map (operand_value regs) os ++ zeros k)) e
 
 -- over a caller's registers and some for the callee, the latter become those of the callee's entry frame
-pub entry_move_is : (os : List Operand) (a b : List ℤ) → length os ≤ length b → All (IsOperandWithin (length a)) os → moved (a ++ b) (entry_pairs (length a) os (length b)) (a ++ b) ≡ a ++ entry_regs (length b) (map (operand_value a) os)
+pub entry_move_is : (os : List Operand) (a b : List ℤ) → length os ≤ length b → All (IsOperandWithin (length a)) os →
+    moved (a ++ b) (entry_pairs (length a) os (length b)) (a ++ b) ≡ a ++ entry_regs (length b) (map (operand_value a) os)
 entry_move_is os a b few within =
     entry_moved os (a ++ b) a b ∙ ap (λ z. a ++ z) (values_entry os (length b) (a ++ b) few ∙ ap (entry_regs (length b)) (operands_left a b os within))
 
@@ -149,10 +159,12 @@ unfolding shift_fact shift_reg
 shifted_satisfied a b [] h k d lt = absurd (omega arith)
 shifted_satisfied a b (x ∷ own) h zero d lt = sym (register_shift a b x.reg.0) ∙ h 0 (shift_fact (length a) x) (omega arith)
 shifted_satisfied a b (x ∷ own) h (suc k) d lt =
-    shifted_satisfied a b own (All-tail (λ y. register (a ++ b) y.reg.0 ≡ y.value) (shift_fact (length a) x) (map (shift_fact (length a)) own) h) k d (omega arith)
+    shifted_satisfied a b own (All-tail (λ y. register (a ++ b) y.reg.0 ≡ y.value) (shift_fact (length a) x) (map (shift_fact (length a)) own) h) k d
+        (omega arith)
 
 -- the joined facts allow what both allow
-pub allows_joined : (a b : List ℤ) (facts own : Facts) → HasFineFacts (length a) facts → Allows (joined_facts (length a) facts own) (a ++ b) ↔ (Allows facts a × Allows own b)
+pub allows_joined : (a b : List ℤ) (facts own : Facts) → HasFineFacts (length a) facts →
+    Allows (joined_facts (length a) facts own) (a ++ b) ↔ (Allows facts a × Allows own b)
 unfolding joined_facts
 allows_joined a b Unreached own fine = ((λ h. absurd h), (λ h. absurd h.0))
 allows_joined a b (Known facts) Unreached fine = ((λ h. absurd h), (λ h. absurd h.1))
@@ -161,5 +173,6 @@ allows_joined a b (Known facts) (Known own) fine = (
     satisfies_right a b facts fine.registers (All-left (λ x. register (a ++ b) x.reg.0 ≡ x.value) facts (map (shift_fact (length a)) own) h),
     shifted_satisfied a b own (All-right (λ x. register (a ++ b) x.reg.0 ≡ x.value) facts (map (shift_fact (length a)) own) h),
   )),
-  (λ h. All-append (λ x. register (a ++ b) x.reg.0 ≡ x.value) facts (map (shift_fact (length a)) own) (satisfies_left a b facts fine.registers h.0) (satisfies_shifted a b own h.1)),
+  (λ h. All-append (λ x. register (a ++ b) x.reg.0 ≡ x.value) facts (map (shift_fact (length a)) own) (satisfies_left a b facts fine.registers h.0)
+      (satisfies_shifted a b own h.1)),
 )

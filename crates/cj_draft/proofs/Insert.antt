@@ -69,7 +69,8 @@ NewOn P code r New p' regs (Plain (Faults e)) = ⊤
 NewOn P code r New p' regs (Guarded holds back target next) =
     holds ≡ true → (st : Stack) (a : Arrives P code next regs st) (q : Back) → New (r next) q → IsOwn P a.place regs q ⊎ Contains p'.backs q
 
-module _ (P : Program) (context : List Fact) (f : FunId) (code code' : Code) (l a : Label) (r : Label → Label) (New : Label → Back → Type 0) (ins : IsInserted code code' l a r New) where
+module _ (P : Program) (context : List Fact) (f : FunId) (code code' : Code) (l a : Label) (r : Label → Label) (New : Label → Back →
+    Type 0) (ins : IsInserted code code' l a r New) where
   admits_to : (p p' : Place) (regs : List ℤ) → p.facts ≡ p'.facts → Admits code p regs → Admits code' p' regs
   admits_to p p' regs e h = record { count = h.count ∙ ins.regs; facts = subst (λ x. Allows x regs) e h.facts }
 
@@ -77,7 +78,10 @@ module _ (P : Program) (context : List Fact) (f : FunId) (code code' : Code) (l 
   admits_from p p' regs e h = record { count = h.count ∙ sym ins.regs; facts = subst (λ x. Allows x regs) (sym e) h.facts }
 
   -- an arrival at a label of the old code, at a place of the new one that has its point and facts
-  way_to : (Extra : Back → Type 0) (regs : List ℤ) (st : Stack) (next : Label) (x : Arrives P code next regs st) (k : Label) (p' : Place) → place_at code' k ≡ Some p' → x.place.point ≡ p'.point → x.place.facts ≡ p'.facts → ((q : Back) → Contains p'.backs q → Contains x.place.backs q ⊎ New k q) → ((q : Back) → New k q → IsOwn P x.place regs q ⊎ Extra q) → Way P code code' Extra regs st x.place k
+  way_to : (Extra : Back → Type 0) (regs : List ℤ) (st : Stack) (next : Label) (x : Arrives P code next regs st) (k : Label) (p' : Place) →
+      place_at code' k ≡ Some p' → x.place.point ≡ p'.point → x.place.facts ≡ p'.facts →
+      ((q : Back) → Contains p'.backs q → Contains x.place.backs q ⊎ New k q) → ((q : Back) → New k q → IsOwn P x.place regs q ⊎ Extra q) →
+      Way P code code' Extra regs st x.place k
   way_to Extra regs st next x k p' at point facts only new =
       let e = ap (λ z. frames_of P z regs) point in
       record {
@@ -86,7 +90,8 @@ module _ (P : Program) (context : List Fact) (f : FunId) (code code' : Code) (l 
         backs = λ q c. ⊎_elim (λ old. inl old) (λ n. ⊎_elim (λ own. inr (inl (own.0, own.1 ∙ e))) (λ ex. inr (inr ex)) (new q n)) (only q c);
       }
 
-  way_any : (Extra : Back → Type 0) (regs : List ℤ) (st : Stack) (next : Label) (x : Arrives P code next regs st) → ((q : Back) → New (r next) q → IsOwn P x.place regs q ⊎ Extra q) → Way P code code' Extra regs st x.place (r next)
+  way_any : (Extra : Back → Type 0) (regs : List ℤ) (st : Stack) (next : Label) (x : Arrives P code next regs st) →
+      ((q : Back) → New (r next) q → IsOwn P x.place regs q ⊎ Extra q) → Way P code code' Extra regs st x.place (r next)
   way_any Extra regs st next x new = ⊎_elim
       (λ h.
       let same : x.place ≡ ins.place = same_Some x.place ins.place (sym x.at ∙ ap (place_at code) h.0 ∙ ins.at_l) in
@@ -107,11 +112,13 @@ module _ (P : Program) (context : List Fact) (f : FunId) (code code' : Code) (l 
   ways_on p' regs (Guarded holds back target next) new = λ h st x. way_any (λ q. Contains p'.backs q) regs st next x (new h st x)
 
   -- a place of the old code
-  old_place : (x : Label) (p p' : Place) → IsKept r (New x) p p' → (regs m : List ℤ) → SoundEffect P code p regs m (version_effect p.instr regs m) → NewOn P code r New p' regs (version_effect p.instr regs m) → SoundEffect P code' p' regs m (version_effect p'.instr regs m)
+  old_place : (x : Label) (p p' : Place) → IsKept r (New x) p p' → (regs m : List ℤ) → SoundEffect P code p regs m (version_effect p.instr regs m) →
+      NewOn P code r New p' regs (version_effect p.instr regs m) → SoundEffect P code' p' regs m (version_effect p'.instr regs m)
   old_place x p p' k regs m s new =
       let g : Grown p p' = record { point = k.point; backs = k.backs; silent = λ i. subst IsSilentIn (sym k.instr) (silent-relabel r p.instr i) } in
       let e = ap (λ i. version_effect i regs m) k.instr ∙ effect-relabel r p.instr regs m in
-      subst (SoundEffect P code' p' regs m) (sym e) (effect_way P code code' r p p' regs m (version_effect p.instr regs m) g (ways_on p' regs (version_effect p.instr regs m) new) s)
+      subst (SoundEffect P code' p' regs m) (sym e)
+          (effect_way P code code' r p p' regs m (version_effect p.instr regs m) g (ways_on p' regs (version_effect p.instr regs m) new) s)
 
   -- the fresh place goes on to l, with the same frames and facts
   fresh_passes : (regs : List ℤ) → Admits code' ins.fresh regs → Passes P code' ins.fresh regs l
@@ -119,7 +126,8 @@ module _ (P : Program) (context : List Fact) (f : FunId) (code code' : Code) (l 
       let k = ins.kept l ins.place ins.at_l in
       let e = ap (λ z. frames_of P z regs) (sym k.2.point ∙ ins.point) in
       record {
-        arrives = record { place = k.0; at = k.1; admits = admits_to ins.place k.0 regs k.2.facts (admits_from ins.place ins.fresh regs ins.facts h); same = subst (λ s. Same P s (frames_of P k.0.point regs)) e (same_refl P (frames_of P k.0.point regs)) };
+        arrives = record { place = k.0; at = k.1; admits = admits_to ins.place k.0 regs k.2.facts (admits_from ins.place ins.fresh regs ins.facts h);
+            same = subst (λ s. Same P s (frames_of P k.0.point regs)) e (same_refl P (frames_of P k.0.point regs)) };
         equal = sym e;
         backs = λ q c. ⊎_elim (λ o. inr (ins.backs q o)) (λ n. absurd (ins.none_at_l q n)) (k.2.only q c);
       }
@@ -127,8 +135,10 @@ module _ (P : Program) (context : List Fact) (f : FunId) (code code' : Code) (l 
   fresh_place : (regs m : List ℤ) → Admits code' ins.fresh regs → SoundEffect P code' ins.fresh regs m (version_effect ins.fresh.instr regs m)
   unfolding version_effect
   fresh_place regs m h = ⊎_elim
-      (λ i. subst (λ z. SoundEffect P code' ins.fresh regs m (version_effect z regs m)) (sym i) (record { target_in = ins.target_in; passes = λ t. fresh_passes regs h }))
-      (λ i. subst (λ z. SoundEffect P code' ins.fresh regs m (version_effect z regs m)) (sym i) (record { target_in = ins.target_in; passes = λ t. fresh_passes regs h }))
+      (λ i. subst (λ z. SoundEffect P code' ins.fresh regs m (version_effect z regs m)) (sym i)
+          (record { target_in = ins.target_in; passes = λ t. fresh_passes regs h }))
+      (λ i. subst (λ z. SoundEffect P code' ins.fresh regs m (version_effect z regs m)) (sym i)
+          (record { target_in = ins.target_in; passes = λ t. fresh_passes regs h }))
       ins.instr
 
   -- the new entry's facts are the old one's
@@ -147,7 +157,8 @@ module _ (P : Program) (context : List Fact) (f : FunId) (code code' : Code) (l 
   -- The new code is sound where it is well named, its rows are short, and each new pair may stand where it stands.
   pub inserted_sound : Sound P context f code
       → WellNamed P code'
-      → ((x : Label) (p p' : Place) → place_at code x ≡ Some p → place_at code' x ≡ Some p' → IsKept r (New x) p p' → (regs m : List ℤ) → Admits code p regs → NewOn P code r New p' regs (version_effect p.instr regs m))
+      → ((x : Label) (p p' : Place) → place_at code x ≡ Some p → place_at code' x ≡ Some p' → IsKept r (New x) p p' → (regs m : List ℤ) → Admits code p regs →
+          NewOn P code r New p' regs (version_effect p.instr regs m))
       → ((regs : List ℤ) (st : Stack) (s : Arrives P code code.entry regs st) (q : Back) → New (r code.entry) q → IsOwn P s.place regs q)
       → ((x : Label) → RowWithin code' 8 x)
       → Sound P context f code'
@@ -162,7 +173,8 @@ module _ (P : Program) (context : List Fact) (f : FunId) (code code' : Code) (l 
         let old = s.entry args takes satisfied in
         let w = resumes_way P code code' code.entry (r code.entry) (entry_regs code.regs args) st
         (λ x. way_any (λ q. ⊥) (entry_regs code.regs args) st code.entry x (λ q n. inl (first (entry_regs code.regs args) st x q n))) old in
-        subst (λ e. Resumes P code' e (entry_regs code'.regs args) st) (sym ins.entry) (subst (λ n. Resumes P code' (r code.entry) (entry_regs n args) st) ins.regs w);
+        subst (λ e. Resumes P code' e (entry_regs code'.regs args) st) (sym ins.entry)
+            (subst (λ n. Resumes P code' (r code.entry) (entry_regs n args) st) ins.regs w);
     places = λ x p' at regs m fit. ⊎_elim
         (λ e.
         let same : ins.fresh ≡ p' = same_Some ins.fresh p' (sym ins.at_a ∙ ap (place_at code') (sym e) ∙ at) in

@@ -16,7 +16,8 @@ pub all_from : {X : Type 0} (P : X → Type 0) (xs : List X) → ((i : ℕ) (x :
 all_from P xs h k d lt = h k (slice_index_or xs k d) (slice_get-get_or xs k d lt)
 
 -- all that a place of a well-named code names exists
-pub fine_of : (P : Program) (code : Code) → WellNamed P code → (x : Label) (p : Place) → place_at code x ≡ Some p → IsPlaceFine P code.regs (length code.places) p
+pub fine_of : (P : Program) (code : Code) → WellNamed P code → (x : Label) (p : Place) → place_at code x ≡ Some p →
+    IsPlaceFine P code.regs (length code.places) p
 fine_of P code named x p at = all_at (IsPlaceFine P code.regs (length code.places)) code.places x.0 p named.places at
 
 -- what holds of all items of two lists holds of those of each

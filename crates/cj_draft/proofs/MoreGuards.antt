@@ -43,7 +43,8 @@ pub record HasMoreGuards (code code' : Code) (s : Label) (place : Place) (guards
   pub kept : KeepsPlaces code code'
   pub back : (x : Label) (p' : Place) → place_at code' x ≡ Some p' → (place_at code x ≡ Some p') ⊎ (with_guards (guards ++ more) number target next place ≡ p')
 
-module _ (P : Program) (context : List Fact) (f : FunId) (code code' : Code) (s : Label) (place : Place) (guards more : List Guard) (number : ℕ) (target : Point) (next : Label) (sound : Sound P context f code) (has : HasMoreGuards code code' s place guards more number target next) where
+module _ (P : Program) (context : List Fact) (f : FunId) (code code' : Code) (s : Label) (place : Place) (guards more : List Guard) (number : ℕ)
+    (target : Point) (next : Label) (sound : Sound P context f code) (has : HasMoreGuards code code' s place guards more number target next) where
   admits_old : (p : Place) (regs : List ℤ) → Admits code' p regs → Admits code p regs
   admits_old p regs h = record { count = h.count ∙ sym has.regs; facts = h.facts }
 
@@ -51,7 +52,8 @@ module _ (P : Program) (context : List Fact) (f : FunId) (code code' : Code) (s 
   unfolding version_effect
   old_guard regs m fit = subst (λ i. SoundEffect P code place regs m (version_effect i regs m)) has.instr (sound.places s place has.at regs m fit)
 
-  guarded_sound : (regs m : List ℤ) → Admits code place regs → let p' : Place = with_guards (guards ++ more) number target next place in SoundEffect P code' p' regs m (version_effect p'.instr regs m)
+  guarded_sound : (regs m : List ℤ) → Admits code place regs →
+      let p' : Place = with_guards (guards ++ more) number target next place in SoundEffect P code' p' regs m (version_effect p'.instr regs m)
   unfolding version_effect with_guards IsSilentIn
   guarded_sound regs m fit =
       let p' : Place = with_guards (guards ++ more) number target next place in
@@ -72,12 +74,16 @@ module _ (P : Program) (context : List Fact) (f : FunId) (code code' : Code) (s 
     entry_facts = same_entry_facts P code code' has.regs has.kept context sound.named has.entry sound.entry_facts;
     entry = λ args takes satisfied.
         let st : Stack = record { top = entry_frame P f args; waiting = [] } in
-        let w = resumes_way P code code' code.entry code.entry (entry_regs code.regs args) st (λ r. same_way P code code' has.regs has.kept (λ q. ⊥) (entry_regs code.regs args) st code.entry r) (sound.entry args takes satisfied) in
-        subst (λ e. Resumes P code' e (entry_regs code'.regs args) st) (sym has.entry) (subst (λ n. Resumes P code' code.entry (entry_regs n args) st) has.regs w);
+        let w = resumes_way P code code' code.entry code.entry (entry_regs code.regs args) st
+            (λ r. same_way P code code' has.regs has.kept (λ q. ⊥) (entry_regs code.regs args) st code.entry r) (sound.entry args takes satisfied) in
+        subst (λ e. Resumes P code' e (entry_regs code'.regs args) st) (sym has.entry)
+            (subst (λ n. Resumes P code' code.entry (entry_regs n args) st) has.regs w);
     places = λ x p' at regs m fit. ⊎_elim
         (λ old.
         let e = version_effect p'.instr regs m in
-        subst (SoundEffect P code' p' regs m) (relabel-same e) (effect_way P code code' (λ z. z) p' p' regs m e (grown-same p') (same_ways P code code' has.regs has.kept p' regs e) (sound.places x p' old regs m (admits_old p' regs fit))))
+        subst (SoundEffect P code' p' regs m) (relabel-same e)
+            (effect_way P code code' (λ z. z) p' p' regs m e (grown-same p') (same_ways P code code' has.regs has.kept p' regs e)
+            (sound.places x p' old regs m (admits_old p' regs fit))))
         (λ e.
         let fit0 : Admits code place regs = record { count = fit.count ∙ sym has.regs; facts = subst (λ (z : Place). Allows' z regs) (sym e) fit.facts } in
         subst (λ z. SoundEffect P code' z regs m (version_effect z.instr regs m)) e (guarded_sound regs m fit0))

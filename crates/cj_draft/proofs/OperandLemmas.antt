@@ -9,7 +9,8 @@ use Rattle.cj_ir.specs.declared.language.Expr.TheVariants.{Copy, Neg, Eqz, Add, 
 use Rattle.cj_draft.specs.Operands.{with_operands}
 
 -- operands with the same values give the same value
-pub operands_value : (f : Operand → Operand) (one other : List ℤ) → ((o : Operand) → operand_value one (f o) ≡ operand_value other o) → (e : Expr) → expr_value one (with_operands f e) ≡ expr_value other e
+pub operands_value : (f : Operand → Operand) (one other : List ℤ) → ((o : Operand) → operand_value one (f o) ≡ operand_value other o) → (e : Expr) →
+    expr_value one (with_operands f e) ≡ expr_value other e
 unfolding with_operands
 operands_value f one other same (Copy a) = ap Some (same a)
 operands_value f one other same (Neg a) = ap (λ v. Some (wrap (neg_ℤ v))) (same a)
@@ -23,7 +24,8 @@ operands_value f one other same (Eq a b) = ap₂ (λ v w. Some (as_number (int_e
 operands_value f one other same (Lt a b) = ap₂ (λ v w. Some (as_number (int_lt v w))) (same a) (same b)
 
 -- operands whose registers are below a count give an expression whose registers are
-pub operands_within : (f : Operand → Operand) (n n' : ℕ) → ((o : Operand) → IsOperandWithin n o → IsOperandWithin n' (f o)) → (e : Expr) → IsExprWithin n e → IsExprWithin n' (with_operands f e)
+pub operands_within : (f : Operand → Operand) (n n' : ℕ) → ((o : Operand) → IsOperandWithin n o → IsOperandWithin n' (f o)) → (e : Expr) → IsExprWithin n e →
+    IsExprWithin n' (with_operands f e)
 unfolding with_operands
 operands_within f n n' within (Copy a) h = within a h
 operands_within f n n' within (Neg a) h = within a h

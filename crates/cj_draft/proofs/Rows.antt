@@ -64,7 +64,9 @@ module _ (code code' : Code) (l a : Label) (r : Label → Label) (New : Label �
       by_place (Some p') e = ⊎_elim (λ h. inr h) (λ k. inl (row_plain zero x p' e (kept_next x k.0 p' k.2 ∙ ap (option_map r) (row k.0 k.1)))) (ins.back x p' e)
   rows_or (suc n) x row = by_place (λ y w. rows_or n y w) (place_at code' x) refl
     where
-      by_next : ((y : Label) → RowWithin code n y → RowWithin code' n y ⊎ RowPasses code' n y a) → (p p' : Place) → place_at code x ≡ Some p → place_at code' x ≡ Some p' → IsKept r (New x) p p' → (o : Option Label) → guard_next p.instr ≡ o → RowWithin code' (suc n) x ⊎ RowPasses code' (suc n) x a
+      by_next : ((y : Label) → RowWithin code n y → RowWithin code' n y ⊎ RowPasses code' n y a) → (p p' : Place) → place_at code x ≡ Some p →
+          place_at code' x ≡ Some p' → IsKept r (New x) p p' → (o : Option Label) → guard_next p.instr ≡ o →
+          RowWithin code' (suc n) x ⊎ RowPasses code' (suc n) x a
       by_next ih p p' at at' k None g = inl (row_plain (suc n) x p' at' (kept_next x p p' k ∙ ap (option_map r) g))
       by_next ih p p' at at' k (Some next) g =
           let g' : guard_next p'.instr ≡ Some (r next) = kept_next x p p' k ∙ ap (option_map r) g in
@@ -78,7 +80,8 @@ module _ (code code' : Code) (l a : Label) (r : Label → Label) (New : Label �
           (ih next (row p next at g)))
           (ins.leads next)
 
-      by_place : ((y : Label) → RowWithin code n y → RowWithin code' n y ⊎ RowPasses code' n y a) → (o : Option Place) → place_at code' x ≡ o → RowWithin code' (suc n) x ⊎ RowPasses code' (suc n) x a
+      by_place : ((y : Label) → RowWithin code n y → RowWithin code' n y ⊎ RowPasses code' n y a) → (o : Option Place) → place_at code' x ≡ o →
+          RowWithin code' (suc n) x ⊎ RowPasses code' (suc n) x a
       by_place ih None e = inl (row_none (suc n) x e)
       by_place ih (Some p') e = ⊎_elim (λ h. inr (inl h)) (λ k. by_next ih k.0 p' k.1 e k.2 (guard_next k.0.instr) refl) (ins.back x p' e)
 

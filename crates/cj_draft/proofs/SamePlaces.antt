@@ -22,7 +22,8 @@ use Rattle.cj_draft.proofs.Ways.{Way, WaysOn}
 -- at each label of code, code' has a place with the same point, facts and pairs
 abbrev pub KeepsPlaces : Code → Code → Type 0
 KeepsPlaces code code' =
-    (x : Label) (p : Place) → place_at code x ≡ Some p → (p' : Place) × (place_at code' x ≡ Some p') × (p.point ≡ p'.point) × (p.facts ≡ p'.facts) × (p.backs ≡ p'.backs)
+    (x : Label) (p : Place) → place_at code x ≡ Some p →
+        (p' : Place) × (place_at code' x ≡ Some p') × (p.point ≡ p'.point) × (p.facts ≡ p'.facts) × (p.backs ≡ p'.backs)
 
 module _ (P : Program) (code code' : Code) (same_regs : code.regs ≡ code'.regs) (kept : KeepsPlaces code code') where
   pub same_way : (Extra : Back → Type 0) (regs : List ℤ) (st : Stack) (x : Label) (r : Arrives P code x regs st) → Way P code code' Extra regs st r.place x
@@ -47,7 +48,9 @@ module _ (P : Program) (code code' : Code) (same_regs : code.regs ≡ code'.regs
   same_ways p' regs (Plain (Faults e)) = tt
   same_ways p' regs (Guarded holds b t n) = λ h st r. same_way (λ q. Contains p'.backs q) regs st n r
 
-  pub same_entry_facts : (context : List Fact) → WellNamed P code → code'.entry ≡ code.entry → ((p : Place) → place_at code code.entry ≡ Some p → AreAmong context p.facts) → (p' : Place) → place_at code' code'.entry ≡ Some p' → AreAmong context p'.facts
+  pub same_entry_facts : (context : List Fact) → WellNamed P code → code'.entry ≡ code.entry →
+      ((p : Place) → place_at code code.entry ≡ Some p → AreAmong context p.facts) → (p' : Place) → place_at code' code'.entry ≡ Some p' →
+      AreAmong context p'.facts
   same_entry_facts context named entry among p' at =
       let old = at_index code.places code.entry.0 named.entry in
       let k = kept code.entry old.0 old.1 in

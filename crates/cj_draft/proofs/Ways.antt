@@ -9,7 +9,8 @@ use Rattle.cj_ir.specs.declared.language.Label.{Label}
 use Rattle.cj_ir.specs.declared.language.Reg.{Reg}
 use Rattle.cj_ir.specs.declared.language.Program.{Program}
 use Rattle.cj_base.specs.declared.machine.End.TheVariants.{Returned}
-use Rattle.cj_base.specs.Machine.{Stack, Fault, BadAddress, ZeroDivisor, Effect, On, Calls, Returns, Faults, Goes, Ends, end_of, with_value, cell, with_cell, branch, op_effect, load_effect, store_effect, base_turn}
+use Rattle.cj_base.specs.Machine.{Stack, Fault, BadAddress, ZeroDivisor, Effect, On, Calls, Returns, Faults, Goes, Ends, end_of, with_value, cell, with_cell,
+    branch, op_effect, load_effect, store_effect, base_turn}
 use Rattle.cj_base.specs.Run.{IsSilent}
 use Rattle.cj_base.specs.Same.{Same}
 use Rattle.cj_draft.specs.declared.points.Point.{Point}
@@ -35,7 +36,8 @@ branch-relabel r test a b = by_test (int_eq test (pos 0))
     by_test true = refl
     by_test false = refl
 
-value-relabel : (r : Label → Label) (o : Option ℤ) (fault : Fault) (go go' : ℤ → Effect) → ((v : ℤ) → go' v ≡ relabel_plain r (go v)) → with_value o fault go' ≡ relabel_plain r (with_value o fault go)
+value-relabel : (r : Label → Label) (o : Option ℤ) (fault : Fault) (go go' : ℤ → Effect) → ((v : ℤ) → go' v ≡ relabel_plain r (go v)) →
+    with_value o fault go' ≡ relabel_plain r (with_value o fault go)
 unfolding with_value relabel_plain
 value-relabel r None fault go go' h = refl
 value-relabel r (Some v) fault go go' h = h v
@@ -52,11 +54,13 @@ effect-relabel r (Return x) regs m = refl
 effect-relabel r (Print x n) regs m = refl
 effect-relabel r (Load d a n) regs m =
     let address = operand_value regs a in
-    ap Plain (value-relabel r (cell m address) (BadAddress address) (λ v. On n (slice_set regs d.0 v) m []) (λ v. On (r n) (slice_set regs d.0 v) m []) (λ v. refl))
+    ap Plain (value-relabel r (cell m address) (BadAddress address) (λ v. On n (slice_set regs d.0 v) m []) (λ v. On (r n) (slice_set regs d.0 v) m [])
+        (λ v. refl))
 effect-relabel r (Store a x n) regs m =
     let address = operand_value regs a in
     let value = operand_value regs x in
-    ap Plain (value-relabel r (cell m address) (BadAddress address) (λ v. On n regs (with_cell m address value) []) (λ v. On (r n) regs (with_cell m address value) []) (λ v. refl))
+    ap Plain (value-relabel r (cell m address) (BadAddress address) (λ v. On n regs (with_cell m address value) [])
+        (λ v. On (r n) regs (with_cell m address value) []) (λ v. refl))
 effect-relabel r (Fail f l) regs m = refl
 effect-relabel r (Assume g b t n) regs m = refl
 effect-relabel r (Anchor b t n) regs m = refl
@@ -118,7 +122,9 @@ module _ (P : Program) where
         carried = g.backs (pair_of s.before q.point) s.carried;
       }
 
-  pub on_way : (code code' : Code) (from from' : Place) (regs m : List ℤ) (next next' : Label) (regs' m' printed : List ℤ) → Grown from from' → ((st : Stack) (a : Arrives P code next regs' st) → Way P code code' (λ q. IsCarried P from' regs q) regs' st a.place next') → StepsOn P code from regs m next regs' m' printed → StepsOn P code' from' regs m next' regs' m' printed
+  pub on_way : (code code' : Code) (from from' : Place) (regs m : List ℤ) (next next' : Label) (regs' m' printed : List ℤ) → Grown from from' →
+      ((st : Stack) (a : Arrives P code next regs' st) → Way P code code' (λ q. IsCarried P from' regs q) regs' st a.place next') →
+      StepsOn P code from regs m next regs' m' printed → StepsOn P code' from' regs m next' regs' m' printed
   on_way code code' from from' regs m next next' regs' m' printed g ways s =
       let w = ways s.stack s.arrives in
       record {
@@ -126,27 +132,36 @@ module _ (P : Program) where
         turn = subst (λ p. base_turn P (frames_of P p regs) m ≡ Goes printed (record { stack = s.stack; memory = m' })) g.point s.turn;
         arrives = w.arrives;
         backs = λ q i. ⊎_elim
-            (λ old. ⊎_elim (λ own. inl (own_way s.arrives.place w.arrives.place regs' q w.point own)) (λ sil. inr (carried_way from from' regs q g sil)) (s.backs q old))
+            (λ old. ⊎_elim (λ own. inl (own_way s.arrives.place w.arrives.place regs' q w.point own)) (λ sil. inr (carried_way from from' regs q g sil))
+                (s.backs q old))
             (λ new. new) (w.backs q i);
       }
 
-  pub resumes_way : (code code' : Code) (l l' : Label) (regs : List ℤ) (st : Stack) → ((a : Arrives P code l regs st) → Way P code code' (λ q. ⊥) regs st a.place l') → Resumes P code l regs st → Resumes P code' l' regs st
+  pub resumes_way : (code code' : Code) (l l' : Label) (regs : List ℤ) (st : Stack) →
+      ((a : Arrives P code l regs st) → Way P code code' (λ q. ⊥) regs st a.place l') → Resumes P code l regs st → Resumes P code' l' regs st
   resumes_way code code' l l' regs st ways s =
       let w = ways s.arrives in
       record {
         arrives = w.arrives;
-        backs = λ q i. ⊎_elim (λ old. own_way s.arrives.place w.arrives.place regs q w.point (s.backs q old)) (λ new. ⊎_elim (λ own. own) (λ none. absurd none) new) (w.backs q i);
+        backs = λ q i. ⊎_elim (λ old. own_way s.arrives.place w.arrives.place regs q w.point (s.backs q old))
+            (λ new. ⊎_elim (λ own. own) (λ none. absurd none) new) (w.backs q i);
       }
 
-  pub in_way : (code code' : Code) (from from' : Place) (regs : List ℤ) (dest : Reg) (f : FunId) (args : List ℤ) (next next' : Label) → Grown from from' → ((x : ℤ) (st : Stack) (a : Arrives P code next (slice_set regs dest.0 x) st) → Way P code code' (λ q. ⊥) (slice_set regs dest.0 x) st a.place next') → StepsIn P code from regs dest f args next → StepsIn P code' from' regs dest f args next'
+  pub in_way : (code code' : Code) (from from' : Place) (regs : List ℤ) (dest : Reg) (f : FunId) (args : List ℤ) (next next' : Label) → Grown from from' →
+      ((x : ℤ) (st : Stack) (a : Arrives P code next (slice_set regs dest.0 x) st) → Way P code code' (λ q. ⊥) (slice_set regs dest.0 x) st a.place next') →
+      StepsIn P code from regs dest f args next → StepsIn P code' from' regs dest f args next'
   in_way code code' from from' regs dest f args next next' g ways s =
       record {
         call = subst (λ p. IsAtCall P (frames_of P p regs) f args) g.point s.call;
         resumes = λ x. subst (λ p. Resumes P code' next' (slice_set regs dest.0 x) (after_call P (frames_of P p regs) x)) g.point
-            (resumes_way code code' next next' (slice_set regs dest.0 x) (after_call P (frames_of P from.point regs) x) (ways x (after_call P (frames_of P from.point regs) x)) (s.resumes x));
+            (resumes_way code code' next next' (slice_set regs dest.0 x) (after_call P (frames_of P from.point regs) x)
+                (ways x (after_call P (frames_of P from.point regs) x)) (s.resumes x));
       }
 
-  pub guarded_way : (code code' : Code) (from from' : Place) (regs : List ℤ) (holds : Bool) (back : ℕ) (target : Point) (next next' : Label) → Grown from from' → (holds ≡ true → (st : Stack) (a : Arrives P code next regs st) → Way P code code' (λ q. Contains from'.backs q) regs st a.place next') → StepsGuarded P code from regs holds back target next → StepsGuarded P code' from' regs holds back target next'
+  pub guarded_way : (code code' : Code) (from from' : Place) (regs : List ℤ) (holds : Bool) (back : ℕ) (target : Point) (next next' : Label) →
+      Grown from from' → (holds ≡ true → (st : Stack) (a : Arrives P code next regs st) →
+      Way P code code' (λ q. Contains from'.backs q) regs st a.place next') → StepsGuarded P code from regs holds back target next →
+      StepsGuarded P code' from' regs holds back target next'
   guarded_way code code' from from' regs holds back target next next' g ways s =
       record {
         target_in = g.backs (pair_of back target) s.target_in;
@@ -179,10 +194,13 @@ module _ (P : Program) where
       holds ≡ true → (st : Stack) (a : Arrives P code next regs st) → Way P code code' (λ q. Contains from'.backs q) regs st a.place (r next)
 
   -- what an instruction owes in one code, its relabelled effect owes in the other
-  pub effect_way : (code code' : Code) (r : Label → Label) (from from' : Place) (regs m : List ℤ) (e : VersionEffect) → Grown from from' → WaysOn code code' r from' regs e → SoundEffect P code from regs m e → SoundEffect P code' from' regs m (relabel_effect r e)
+  pub effect_way : (code code' : Code) (r : Label → Label) (from from' : Place) (regs m : List ℤ) (e : VersionEffect) → Grown from from' →
+      WaysOn code code' r from' regs e → SoundEffect P code from regs m e → SoundEffect P code' from' regs m (relabel_effect r e)
   unfolding relabel_effect relabel_plain
-  effect_way code code' r from from' regs m (Plain (On next regs' m' printed)) g ways s = on_way code code' from from' regs m next (r next) regs' m' printed g ways s
+  effect_way code code' r from from' regs m (Plain (On next regs' m' printed)) g ways s = on_way code code' from from' regs m next
+      (r next) regs' m' printed g ways s
   effect_way code code' r from from' regs m (Plain (Calls dest f args next)) g ways s = in_way code code' from from' regs dest f args next (r next) g ways s
   effect_way code code' r from from' regs m (Plain (Returns x)) g ways s = subst (λ p. base_turn P (frames_of P p regs) m ≡ Ends (Returned x)) g.point s
   effect_way code code' r from from' regs m (Plain (Faults e)) g ways s = subst (λ p. base_turn P (frames_of P p regs) m ≡ Ends (end_of e)) g.point s
-  effect_way code code' r from from' regs m (Guarded holds back target next) g ways s = guarded_way code code' from from' regs holds back target next (r next) g ways s
+  effect_way code code' r from from' regs m (Guarded holds back target next) g ways s = guarded_way code code' from from' regs holds back target next
+      (r next) g ways s

@@ -38,7 +38,8 @@ base_entered P codes f offset count args none same =
     ∙ ap (λ n. Some (InBase (record { function = f; label = record { 0 = 0 }; regs = entry_regs n args }))) same
 
 pub version_entered : (P : Program) (codes : Codes) (f : FunId) (offset : ℕ) (code : Code) (args : List ℤ) → offset ≢ 0 → codes f offset ≡ Some code
-    → versions.entered P codes (Some (record { function = f; offset = offset })) f args ≡ Some (active_at (Version f offset code.entry) (entry_regs code.regs args))
+    → versions.entered P codes (Some (record { function = f; offset = offset })) f args ≡ Some
+        (active_at (Version f offset code.entry) (entry_regs code.regs args))
 unfolding active_at version_entry
 version_entered P codes f offset code args not found =
     enters_version P codes _ (record { function = f; offset = offset }) f args code refl refl not found
@@ -48,7 +49,8 @@ unfolding versions.paused changes.paused
 paused_same (InBase fr) dest next = refl
 paused_same (InVersion v) dest next = refl
 
-pub call_made : (P : Program) (codes : Codes) (s : State) (looks now_looks : List Look) (look : Look) (dest : Reg) (f : FunId) (args : List ℤ) (next : Label) (position : Position) (count : ℕ) (stack : Stacked)
+pub call_made : (P : Program) (codes : Codes) (s : State) (looks now_looks : List Look) (look : Look) (dest : Reg) (f : FunId) (args : List ℤ) (next : Label)
+    (position : Position) (count : ℕ) (stack : Stacked)
     → now_looks ≡ looks ++ look ∷ [] → s.entries ≡ length looks
     → versions.entered P codes (Some look) f args ≡ Some (active_at position (entry_regs count args))
     → stack ≡ called s.stack dest next position count args
@@ -64,7 +66,8 @@ call_made P codes s looks now_looks look dest f args next position count stack m
 
 -- ---- returns
 
-pub base_dest : (codes : Codes) (waiting : List Paused) (label : Label) (dest : Reg) → innermost waiting ≡ Some (waits.Base label dest) → CanTake codes waiting → HasDest dest waiting
+pub base_dest : (codes : Codes) (waiting : List Paused) (label : Label) (dest : Reg) → innermost waiting ≡ Some (waits.Base label dest) →
+    CanTake codes waiting → HasDest dest waiting
 unfolding innermost waits_of changes.paused_regs
 base_dest codes [] label dest is can = let never : ⊥ = cc in absurd never
 base_dest codes (BaseWaits w ∷ others) label dest is can =
@@ -72,7 +75,8 @@ base_dest codes (BaseWaits w ∷ others) label dest is can =
     subst (λ (r : Reg). r.0 < length w.regs) same can
 base_dest codes (VersionWaits v ∷ others) label dest is can = let never : ⊥ = cc in absurd never
 
-base_returned_by : (codes : Codes) (s : State) (waiting : List Paused) (label : Label) (dest : Reg) (value : ℤ) → innermost waiting ≡ Some (waits.Base label dest)
+base_returned_by : (codes : Codes) (s : State) (waiting : List Paused) (label : Label) (dest : Reg) (value : ℤ) →
+    innermost waiting ≡ Some (waits.Base label dest)
     → returns_to codes s value waiting ≡ Continues (counted s (returned_to waiting s.stack dest label value) s.memory [] s.entries)
 unfolding innermost waits_of returns_to returned_to resumed changes.resumed
 base_returned_by codes s [] label dest value is = let never : ⊥ = cc in absurd never
@@ -94,7 +98,8 @@ pub record IsInnermost (codes : Codes) (waiting : List Paused) (f : FunId) (offs
   pub is : waiting ≡ VersionWaits (record { function = f; offset = offset; label = label; regs = regs }) ∷ others
   pub caller : IsCaller codes (record { function = f; offset = offset; label = label; regs = regs })
 
-pub version_innermost : (codes : Codes) (waiting : List Paused) (f : FunId) (offset : ℕ) (label : Label) → innermost waiting ≡ Some (waits.Version f offset label) → CanTake codes waiting → IsInnermost codes waiting f offset label
+pub version_innermost : (codes : Codes) (waiting : List Paused) (f : FunId) (offset : ℕ) (label : Label) →
+    innermost waiting ≡ Some (waits.Version f offset label) → CanTake codes waiting → IsInnermost codes waiting f offset label
 unfolding innermost waits_of
 version_innermost codes [] f offset label is can = let never : ⊥ = cc in absurd never
 version_innermost codes (BaseWaits w ∷ others) f offset label is can = let never : ⊥ = cc in absurd never
@@ -110,13 +115,15 @@ pub version_dest : (codes : Codes) (waiting : List Paused) (f : FunId) (offset :
 unfolding changes.paused_regs
 version_dest codes waiting f offset label dest i same = subst (HasDest dest) (sym i.is) (subst (λ (r : Reg). r.0 < length i.regs) (sym same) i.caller.within)
 
-pub version_returned : (codes : Codes) (s : State) (f : FunId) (offset : ℕ) (label : Label) (dest : Reg) (next : Label) (value : ℤ) (i : IsInnermost codes s.stack.waiting f offset label)
+pub version_returned : (codes : Codes) (s : State) (f : FunId) (offset : ℕ) (label : Label) (dest : Reg) (next : Label) (value : ℤ)
+    (i : IsInnermost codes s.stack.waiting f offset label)
     → dest ≡ i.caller.dest → next ≡ i.caller.next
     → returns_to codes s value s.stack.waiting ≡ Continues (counted s (returned s.stack dest next value) s.memory [] s.entries)
 unfolding returned returned_to moved_to changes.resumed
 version_returned codes s f offset label dest next value i one two =
     let c = i.caller in
-    returns_to_version codes s value s.stack.waiting i.others (record { function = f; offset = offset; label = label; regs = i.regs }) c.code c.place c.dest c.function c.args c.next i.is c.found c.at c.instr
+    returns_to_version codes s value s.stack.waiting i.others (record { function = f; offset = offset; label = label; regs = i.regs }) c.code c.place c.dest
+        c.function c.args c.next i.is c.found c.at c.instr
     ∙ rw (i.is, one, two) refl
 
 none_left : (waiting : List Paused) → innermost waiting ≡ None → waiting ≡ []
@@ -133,7 +140,8 @@ none_returned codes s value is =
 
 -- ---- what a step left to do was done
 
-pub enters_step : (P : Program) (turn : Turn) (args : List ℤ) (before now : State) (dest : Reg) (f : FunId) (next : Label) (codes : Codes) (look : Option Look) (final : Progress)
+pub enters_step : (P : Program) (turn : Turn) (args : List ℤ) (before now : State) (dest : Reg) (f : FunId) (next : Label) (codes : Codes) (look : Option Look)
+    (final : Progress)
     → IsStep P turn args before now (step.Enters dest f next)
     → turn_by P codes look now now.stack.top (Calls dest f args next) ≡ final → turn codes look ≡ final
 enters_step P turn args before now dest f next codes look final is made =
@@ -147,7 +155,8 @@ returns_step P turn args before now value codes look final is made =
 
 -- ---- the start
 
-pub start_made : (P : Program) (codes : Codes) (call : ScriptCall) (memory printed : List ℤ) (looks : List Look) (notes : List Note) (look : Look) (position : Position) (count : ℕ) (stack : Stacked)
+pub start_made : (P : Program) (codes : Codes) (call : ScriptCall) (memory printed : List ℤ) (looks : List Look) (notes : List Note) (look : Look)
+    (position : Position) (count : ℕ) (stack : Stacked)
     → printed ≡ [] → notes ≡ [] → looks ≡ look ∷ []
     → versions.entered P codes (Some look) call.function call.args ≡ Some (active_at position (entry_regs count call.args))
     → stack ≡ entered position count call.args []

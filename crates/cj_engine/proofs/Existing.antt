@@ -126,7 +126,8 @@ module _ (P : Program) (codes : Codes) (formed : IsWellFormed P) (sound : SoundC
   one_exists (BaseWaits w) frames is all = All-head (IsWaitingOf P) w [] (subst (All (IsWaitingOf P)) is all)
   one_exists (VersionWaits v) frames is all = caller_exists v frames is
 
-  all_exist : (callers : List Paused) (frames : List Waiting) → PausedAre P codes callers frames → All (IsWaitingOf P) frames → All (PausedExists P codes) callers
+  all_exist : (callers : List Paused) (frames : List Waiting) → PausedAre P codes callers frames → All (IsWaitingOf P) frames →
+      All (PausedExists P codes) callers
   all_exist [] frames are all = All-nil (PausedExists P codes)
   all_exist (a ∷ others) frames are all =
       let parts = All-front are.0 are.1 (subst (All (IsWaitingOf P)) are.4 all) in
@@ -138,7 +139,8 @@ module _ (P : Program) (codes : Codes) (formed : IsWellFormed P) (sound : SoundC
     frames_fit s d =
         same_fits P d.run.found (over d.stack d.below) d.run.same (subst (FitsRun P) d.run.run (run_fits P call formed takes s.base_turns))
 
-    top_exists_by : (s : State) (below : List Waiting) (row : ℕ) (a : Active) (stack : Stack) → TopStands P codes call s below row a stack → IsFrameOf P stack.top.function stack.top.label stack.top.regs → TopExists P codes a
+    top_exists_by : (s : State) (below : List Waiting) (row : ℕ) (a : Active) (stack : Stack) → TopStands P codes call s below row a stack →
+        IsFrameOf P stack.top.function stack.top.label stack.top.regs → TopExists P codes a
     top_exists_by s below row (InBase fr) stack stands frame =
         base_exists fr (subst (λ (x : Stack). IsFrameOf P x.top.function x.top.label x.top.regs) stands frame)
     top_exists_by s below row (InVersion v) stack stands frame = version_exists v stands.placed
@@ -156,11 +158,14 @@ module _ (P : Program) (codes : Codes) (formed : IsWellFormed P) (sound : SoundC
 
     -- ---- an Assume that fails
 
-    placed_of : (v : VersionFrame) (p : IsPlaced codes v) (code : Code) (place : Place) → codes v.function v.offset ≡ Some code → place_at code v.label ≡ Some place → p.place ≡ place
+    placed_of : (v : VersionFrame) (p : IsPlaced codes v) (code : Code) (place : Place) → codes v.function v.offset ≡ Some code →
+        place_at code v.label ≡ Some place → p.place ≡ place
     placed_of v p code place found at = same_Some p.place place (sym (place_found codes v p) ∙ place_is codes v code place found at)
 
     -- the frames that it leaves for are at most as many base turns ago as there were
-    pub back_within : (s : State) (v : VersionFrame) (code : Code) (place : Place) (guards : List Guard) (back : ℕ) (target : Point) (next : Label) → Stands P codes call s → s.stack.top ≡ InVersion v → codes v.function v.offset ≡ Some code → place_at code v.label ≡ Some place → place.instr ≡ Assume guards back target next → back ≤ s.base_turns
+    pub back_within : (s : State) (v : VersionFrame) (code : Code) (place : Place) (guards : List Guard) (back : ℕ) (target : Point) (next : Label) →
+        Stands P codes call s → s.stack.top ≡ InVersion v → codes v.function v.offset ≡ Some code → place_at code v.label ≡ Some place →
+        place.instr ≡ Assume guards back target next → back ≤ s.base_turns
     unfolding version_effect
     back_within s v code place guards back target next d top found at is =
         let t : VersionTop P codes call s d.below d.row v d.stack = subst (λ a. TopStands P codes call s d.below d.row a d.stack) top d.top in

@@ -41,7 +41,8 @@ pub record IsBaseTop (P : Program) (a : Active) (f : FunId) (label : Label) : Ty
   pub at : instr_at P f label ≡ Some instr
   pub fine : IsInstrFine P.functions (length (active_regs a)) (label_count P f) instr
 
-pub base_top : (P : Program) (codes : Codes) (n : ℕ) (a : Active) (f : FunId) (label : Label) → position_of a ≡ Base f label → TopReady P codes n a → IsBaseTop P a f label
+pub base_top : (P : Program) (codes : Codes) (n : ℕ) (a : Active) (f : FunId) (label : Label) → position_of a ≡ Base f label → TopReady P codes n a →
+    IsBaseTop P a f label
 unfolding position_of active_regs
 base_top P codes n (InBase fr) f label is h =
     let one : fr.function ≡ f = cc in
@@ -59,7 +60,8 @@ base_top P codes n (InBase fr) f label is h =
 base_top P codes n (InVersion v) f label is h = let never : ⊥ = cc in absurd never
 
 -- the instruction of a line that was found
-pub line_instr : (P : Program) (f : FunId) (label : Label) (line : Line) (instr : Instr) → line_at P f label ≡ Some line → instr_at P f label ≡ Some instr → instr ≡ line.instr
+pub line_instr : (P : Program) (f : FunId) (label : Label) (line : Line) (instr : Instr) → line_at P f label ≡ Some line → instr_at P f label ≡ Some instr →
+    instr ≡ line.instr
 line_instr P f label line instr found at = same_Some instr line.instr (sym at ∙ ap (option_map (λ (l : Line). l.instr)) found)
 
 -- a version on top, at that label
@@ -79,7 +81,8 @@ pub record IsVersionTop (P : Program) (codes : Codes) (n : ℕ) (a : Active) (f 
   pub fine : IsVInstrFine P (length (active_regs a)) (length code.places) place.instr
   pub back : CanGoBack n place.instr
 
-pub version_top : (P : Program) (codes : Codes) (n : ℕ) (a : Active) (f : FunId) (offset : ℕ) (label : Label) → position_of a ≡ Version f offset label → TopReady P codes n a → IsVersionTop P codes n a f offset label
+pub version_top : (P : Program) (codes : Codes) (n : ℕ) (a : Active) (f : FunId) (offset : ℕ) (label : Label) → position_of a ≡ Version f offset label →
+    TopReady P codes n a → IsVersionTop P codes n a f offset label
 unfolding position_of active_regs
 version_top P codes n (InBase fr) f offset label is h = let never : ⊥ = cc in absurd never
 version_top P codes n (InVersion v) f offset label is h =
@@ -123,7 +126,8 @@ base_fits P codes turn args f label before now instr (step.Returns v) can at fin
     (early_of before now made.0 can.early, take_of codes before now made.0 can.waiting)
 base_fits P codes turn args f label before now instr step.Fails can at fine needs made = absurd needs
 
-pub version_fits : (P : Program) (codes : Codes) (turn : Turn) (args : List ℤ) (f : FunId) (label : Label) (labels : ℕ) (before now : State) (instr : VInstr) (step : Step)
+pub version_fits : (P : Program) (codes : Codes) (turn : Turn) (args : List ℤ) (f : FunId) (label : Label) (labels : ℕ) (before now : State) (instr : VInstr)
+    (step : Step)
     → CanTurn P codes before → f.0 < length P.functions → IsVInstrFine P (length (active_regs before.stack.top)) labels instr
     → VersionNeeds instr args step → IsStep P turn args before now step → IsReady P codes args f label now step
 version_fits P codes turn args f label labels before now instr step.Goes can inside fine needs made = tt

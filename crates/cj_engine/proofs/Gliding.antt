@@ -32,12 +32,14 @@ same_codes codes f offset code found = found
 pub some_turn : (n : ℕ) → n ≢ 0 → 1 ≤ n
 some_turn n other = grind arith
 
-pub room_turns : (P : Program) (codes : Codes) (count : ℕ) (s : State) → IsWellFormed P → SoundCodes P codes → HasRoom P codes count s → 0 < count → CanTurn P codes s
+pub room_turns : (P : Program) (codes : Codes) (count : ℕ) (s : State) → IsWellFormed P → SoundCodes P codes → HasRoom P codes count s → 0 < count →
+    CanTurn P codes s
 room_turns P codes count s formed sound r more =
     let room = r.room in
     way_turns P codes s formed sound (record { call = r.call; takes = r.takes; stands = r.stands; before = omega arith; limit = r.limit })
 
-pub room_after : (P : Program) (codes : Codes) (count left : ℕ) (s t : State) → IsWellFormed P → SoundCodes P codes → HasRoom P codes count s → left + 1 ≡ count → IsQuiet P codes s t → HasRoom P codes left t
+pub room_after : (P : Program) (codes : Codes) (count left : ℕ) (s t : State) → IsWellFormed P → SoundCodes P codes → HasRoom P codes count s →
+    left + 1 ≡ count → IsQuiet P codes s t → HasRoom P codes left t
 room_after P codes count left s t formed sound r fewer q =
     let turn = q.turn codes None (same_codes codes) in
     let counted : t.turns ≡ s.turns + 1 = turn_counted P codes None s t Running turn in
@@ -50,13 +52,15 @@ room_after P codes count left s t formed sound r fewer q =
       limit = r.limit;
     }
 
-module _ {P : Program} {codes : Codes} {s : State} {f : FunId} {offset : ℕ} {label : Label} (can : CanTurn P codes s) (position : position_of s.stack.top ≡ Version f offset label) where
+module _ {P : Program} {codes : Codes} {s : State} {f : FunId} {offset : ℕ} {label : Label} (can : CanTurn P codes s)
+    (position : position_of s.stack.top ≡ Version f offset label) where
   pub placed_here : (code : Code) → codes f offset ≡ Some code → (q : Place) × (place_at code label ≡ Some q)
   placed_here code found =
       let there = (version_there can position).1 in
       (there.place, subst (λ (c : Code). place_at c label ≡ Some there.place) (same_Some there.code code (sym there.found ∙ found)) there.at)
 
-  pub stands_here : (code : Code) (instr : VInstr) → codes f offset ≡ Some code → ((q : Place) → place_at code label ≡ Some q → q.instr ≡ instr) → StandsAt codes f offset label instr
+  pub stands_here : (code : Code) (instr : VInstr) → codes f offset ≡ Some code → ((q : Place) → place_at code label ≡ Some q → q.instr ≡ instr) →
+      StandsAt codes f offset label instr
   stands_here code instr found is =
       let placed = placed_here code found in
       record { code = code; place = placed.0; found = found; at = placed.1; is = is placed.0 placed.1 }
@@ -67,12 +71,14 @@ module _ {P : Program} {codes : Codes} {s : State} {f : FunId} {offset : ℕ} {l
     goes_quietly {step} made0 is entries =
         let made : IsVersionStep instr args s now Goes = subst (IsVersionStep instr args s now) is made0 in
         record {
-          turn = λ later look grows. version_turn_over can position there made {later = later} {final = Continues now} look grows (λ turn before is. is later look);
+          turn = λ later look grows. version_turn_over can position there made {later = later} {final = Continues now} look grows
+              (λ turn before is. is later look);
           marks = λ later grows. version_marks_done can position there made later grows;
           entries = entries;
         }
 
-    pub stops_here : {step : Step} {first : State} (turns count : ℕ) → turns + 1 ≤ count → step ≢ Goes → IsVersionStep instr args s now step → Quiet P codes turns first s → Stops P codes args f label count first now step
+    pub stops_here : {step : Step} {first : State} (turns count : ℕ) → turns + 1 ≤ count → step ≢ Goes → IsVersionStep instr args s now step →
+        Quiet P codes turns first s → Stops P codes args f label count first now step
     stops_here {step} {first} turns count fewer stops made quiet = record {
       turns = turns;
       fewer = fewer;

@@ -18,7 +18,8 @@ module _ {W : Type 0} (program : W → Program) (codes : W → Codes) (stay : W 
     ready = ready;
   }
 
-  pub keeps_then : (a b c : W) → (stay a b → stay b c → stay a c) → Keeps program codes stay fit a b → Keeps program codes stay fit b c → Keeps program codes stay fit a c
+  pub keeps_then : (a b c : W) → (stay a b → stay b c → stay a c) → Keeps program codes stay fit a b → Keeps program codes stay fit b c →
+      Keeps program codes stay fit a c
   keeps_then a b c on one two = record {
     grows = grows_more (codes a) (codes b) (codes c) one.grows two.grows;
     same = two.same ∙ one.same;

@@ -26,7 +26,8 @@ module _ (P : Program) (codes : Codes) (trail : List Look) where
       let e : suc n + m ≡ suc (n + m) = omega arith in
       rw e (ap (one_turn_more P codes trail) (turns_then p n m))
 
-  pub marks_then : (p : Progress) (n m : ℕ) → marks_from P codes trail p (n + m) ≡ marks_from P codes trail p m ++ marks_from P codes trail (turns_from P codes trail p m) n
+  pub marks_then : (p : Progress) (n m : ℕ) →
+      marks_from P codes trail p (n + m) ≡ marks_from P codes trail p m ++ marks_from P codes trail (turns_from P codes trail p m) n
   unfolding marks_from
   marks_then p zero m = let e : 0 + m ≡ m = omega arith in rw e (sym (append-nil (marks_from P codes trail p m)))
   marks_then p (suc n) m =
@@ -45,7 +46,8 @@ module _ (P : Program) (codes : Codes) (trail : List Look) where
       let e : suc n + m ≡ suc (n + m) = omega arith in
       rw e (ap (one_turn_more P codes trail) (run_then call n m))
 
-  pub run_marks_then : (call : Begun) (n m : ℕ) → run_marks P codes trail call (n + m) ≡ run_marks P codes trail call m ++ marks_from P codes trail (version_run P codes trail call m) n
+  pub run_marks_then : (call : Begun) (n m : ℕ) →
+      run_marks P codes trail call (n + m) ≡ run_marks P codes trail call m ++ marks_from P codes trail (version_run P codes trail call m) n
   unfolding marks_from run_marks
   run_marks_then call zero m = let e : 0 + m ≡ m = omega arith in rw e (sym (append-nil (run_marks P codes trail call m)))
   run_marks_then call (suc n) m =
@@ -93,7 +95,8 @@ module _ (P : Program) (codes later : Codes) (g : Grows codes later) (trail more
   pub turns_later : (p : Progress) (n : ℕ) (o : Progress) → o ≢ Undefined → turns_from P codes trail p n ≡ o → turns_from P later (trail ++ more) p n ≡ o
   turns_later p n o defined e = ⊎_elim (λ none. absurd (defined (sym e ∙ none))) (λ same. sym same ∙ e) (turns_kept p n)
 
-  pub marks_from_later : (p : Progress) (n : ℕ) → turns_from P codes trail p n ≢ Undefined → marks_from P later (trail ++ more) p n ≡ marks_from P codes trail p n
+  pub marks_from_later : (p : Progress) (n : ℕ) → turns_from P codes trail p n ≢ Undefined →
+      marks_from P later (trail ++ more) p n ≡ marks_from P codes trail p n
   unfolding marks_from turns_from
   marks_from_later p zero defined = refl
   marks_from_later p (suc n) defined =
@@ -106,7 +109,8 @@ module _ (P : Program) (codes later : Codes) (g : Grows codes later) (trail more
 
 -- ---- what a state stands for
 
-pub turns_hold : (P : Program) (codes : Codes) (trail : List Look) (call : Begun) → IsWellFormed P → SoundCodes P codes → (p : Progress) (n : ℕ) → Holds P codes call p → Holds P codes call (turns_from P codes trail p n)
+pub turns_hold : (P : Program) (codes : Codes) (trail : List Look) (call : Begun) → IsWellFormed P → SoundCodes P codes → (p : Progress) (n : ℕ) →
+    Holds P codes call p → Holds P codes call (turns_from P codes trail p n)
 unfolding turns_from
 turns_hold P codes trail call formed sound p zero h = h
 turns_hold P codes trail call formed sound p (suc n) h =

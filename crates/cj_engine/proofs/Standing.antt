@@ -46,7 +46,8 @@ can_take P codes (VersionWaits v ∷ others) all =
       within = h.dest_within;
     }
 
-back_of : (base_turns : ℕ) (i : VInstr) → ((guards : List Guard) (back : ℕ) (target : Point) (next : Label) → i ≡ Assume guards back target next → back ≤ base_turns) → CanGoBack base_turns i
+back_of : (base_turns : ℕ) (i : VInstr) →
+    ((guards : List Guard) (back : ℕ) (target : Point) (next : Label) → i ≡ Assume guards back target next → back ≤ base_turns) → CanGoBack base_turns i
 back_of n (Nop next) h = tt
 back_of n (Op dest expr next) h = tt
 back_of n (Move pairs next) h = tt
@@ -64,7 +65,8 @@ inside_of : (P : Program) (f : FunId) (o : Option Function) → slice_get P.func
 inside_of P f None is Q h = absurd h
 inside_of P f (Some g) is Q h = slice_get_within P.functions f.0 g is
 
-module _ (P : Program) (codes : Codes) (formed : IsWellFormed P) (sound : SoundCodes P codes) (call : Begun) (takes : Takes P.functions call.function (length call.args)) (s : State) (d : Stands P codes call s) where
+module _ (P : Program) (codes : Codes) (formed : IsWellFormed P) (sound : SoundCodes P codes) (call : Begun)
+    (takes : Takes P.functions call.function (length call.args)) (s : State) (d : Stands P codes call s) where
   top_ready : (a : Active) → s.stack.top ≡ a → TopExists P codes a → TopReady P codes s.base_turns a
   top_ready (InBase fr) is h = record { label_within = h.frame.label_within; instr = h.instr; at = h.at; fine = h.fine }
   top_ready (InVersion v) is h =
@@ -74,10 +76,12 @@ module _ (P : Program) (codes : Codes) (formed : IsWellFormed P) (sound : SoundC
         place = h.place;
         found = h.found;
         at = h.at;
-        inside = inside_of P v.function (slice_get P.functions v.function.0) refl _ (subst (λ (f : FunId). IsSomeAnd (slice_get P.functions f.0) (λ g. g.params ≤ h.code.regs)) h.sound.function named.params);
+        inside = inside_of P v.function (slice_get P.functions v.function.0) refl _
+            (subst (λ (f : FunId). IsSomeAnd (slice_get P.functions f.0) (λ g. g.params ≤ h.code.regs)) h.sound.function named.params);
         few_regs = rw h.all_regs named.few_regs;
         fine = h.fine;
-        back = back_of s.base_turns h.place.instr (λ guards back target next instr. back_within P codes formed sound call takes s v h.code h.place guards back target next d is h.found h.at instr);
+        back = back_of s.base_turns h.place.instr
+            (λ guards back target next instr. back_within P codes formed sound call takes s v h.code h.place guards back target next d is h.found h.at instr);
       }
 
   pub can_turn : s.turns < 1000000 → CanTurn P codes s

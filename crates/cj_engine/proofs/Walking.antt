@@ -24,7 +24,8 @@ both_found true false code is = let never : ⊥ = cc in absurd never
 both_found false there code is = let never : ⊥ = cc in absurd never
 
 -- the start
-pub run_walks : (P : Program) (looks : List Look) (call : ScriptCall) (memory : List ℤ) (s : State) → IsRun P no_codes looks (begun_with call memory) s → Walks P looks call.limit s
+pub run_walks : (P : Program) (looks : List Look) (call : ScriptCall) (memory : List ℤ) (s : State) → IsRun P no_codes looks (begun_with call memory) s →
+    Walks P looks call.limit s
 unfolding begun_with
 run_walks P looks call memory s is = record { call = begun_with call memory; same = refl; run = is }
 
@@ -35,9 +36,11 @@ walk_under_way P looks limit s w before =
 
 -- and after a turn that goes on so can a further one
 pub walk_goes : (P Q : Program) (looks later : List Look) (limit : ℕ) (s t : State) (answer : Turned) → Q ≡ P → Walks P looks limit s → s.turns < limit
-    → ((call : Begun) → IsRun P no_codes looks call s → s.turns < call.limit → RunGoes P no_codes later call answer t) → answer ≡ Running → Walks Q later limit t
+    → ((call : Begun) → IsRun P no_codes looks call s → s.turns < call.limit → RunGoes P no_codes later call answer t) → answer ≡ Running →
+        Walks Q later limit t
 walk_goes P Q looks later limit s t answer same w before goes is =
-    let run : RunGoes P no_codes later w.call Running t = subst (λ (a : Turned). RunGoes P no_codes later w.call a t) is (goes w.call w.run (subst (λ (n : ℕ). s.turns < n) (sym w.same) before)) in
+    let run : RunGoes P no_codes later w.call Running t = subst (λ (a : Turned). RunGoes P no_codes later w.call a t) is
+        (goes w.call w.run (subst (λ (n : ℕ). s.turns < n) (sym w.same) before)) in
     subst (λ (R : Program). Walks R later limit t) (sym same) (record { call = w.call; same = w.same; run = run })
 
 -- ---- one version

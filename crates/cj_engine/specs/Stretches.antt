@@ -39,7 +39,8 @@ pub record Stops (P : Program) (codes : Codes) (args : List ℤ) (f : FunId) (la
   pub stops : left ≢ step.Goes
   pub mid : State
   pub quiet : Quiet P codes turns s mid
-  pub done : (later : Codes) (look : Option Look) (final : Progress) → Grows codes later → IsCarried P args t left later look final → version_turn P later look mid ≡ final
+  pub done : (later : Codes) (look : Option Look) (final : Progress) → Grows codes later → IsCarried P args t left later look final →
+      version_turn P later look mid ≡ final
   pub marks : (later : Codes) → Grows codes later → turn_marks P later mid ≡ marks_told left f label args
   pub ready : IsReady P codes args f label t left
   pub entry : IsEntry left → t ≡ mid
@@ -71,12 +72,14 @@ marks_from P codes trail p (suc n) = marks_from P codes trail p n ++ next_marks 
 
 -- So many turns were made, or as many as there were to the end of the run, over the trail that there is after them.
 -- Their marks were told.
-pub record Onward (P : Program) (went : List Mark → Type 0) (codes : Codes) (trail : List Look) (count : ℕ) (s : State) (answer : Turned) (t : State) : Type 0 where
+pub record Onward (P : Program) (went : List Mark → Type 0) (codes : Codes) (trail : List Look) (count : ℕ) (s : State) (answer : Turned)
+    (t : State) : Type 0 where
   pub made : turns_from P codes trail (Continues s) count ≡ progress_of answer t
   pub told : went (marks_from P codes trail (Continues s) count)
 
 -- At least one turn was made, and at most so many.
-pub record Stretched (P : Program) (went : List Mark → Type 0) (codes : Codes) (trail : List Look) (count : ℕ) (s : State) (answer : Turned) (t : State) : Type 0 where
+pub record Stretched (P : Program) (went : List Mark → Type 0) (codes : Codes) (trail : List Look) (count : ℕ) (s : State) (answer : Turned)
+    (t : State) : Type 0 where
   pub turns : ℕ
   pub some : 1 ≤ turns
   pub few : turns ≤ count

@@ -47,7 +47,8 @@ compiled_within functions ts =
 compile_within : (functions : List Function) (tally : Tally) (ts : List Lexeme) → Within Event (length (behind ts)) (compile_at functions tally ts)
 unfolding compile_at
 compile_within functions tally ts =
-    cond_within (nat_le 256 tally.compiles) (length (behind ts)) _ _ (err_within Event (length (behind ts)) (offence (front ts) TooMany)) (compiled_within functions (behind ts))
+    cond_within (nat_le 256 tally.compiles) (length (behind ts)) _ _ (err_within Event (length (behind ts)) (offence (front ts) TooMany))
+        (compiled_within functions (behind ts))
 
 event_within : (functions : List Function) (tally : Tally) (ts : List Lexeme) → Within Event (length (behind ts)) (event_at functions tally ts)
 unfolding event_at
@@ -60,25 +61,30 @@ unfolding front behind
 event_taken [] h = cc
 event_taken (t ∷ ts) h = omega arith
 
-pub event_shorter : (functions : List Function) (tally : Tally) (ts : List Lexeme) (x : Event × List Lexeme) → is_event ts ≡ true → event_at functions tally ts ≡ Ok x → length x.1 < length ts
+pub event_shorter : (functions : List Function) (tally : Tally) (ts : List Lexeme) (x : Event × List Lexeme) → is_event ts ≡ true →
+    event_at functions tally ts ≡ Ok x → length x.1 < length ts
 event_shorter functions tally ts x b h =
     let s : length (behind ts) < length ts = event_taken ts b in
     let l : length x.1 ≤ length (behind ts) = (event_within functions tally ts).within x h in
     omega arith
 
-pub next_shorter : (functions : List Function) (earlier : List Event) (ts : List Lexeme) (x : Event × List Lexeme) → is_event ts ≡ true → next_event functions earlier ts ≡ Ok x → length x.1 < length ts
+pub next_shorter : (functions : List Function) (earlier : List Event) (ts : List Lexeme) (x : Event × List Lexeme) → is_event ts ≡ true →
+    next_event functions earlier ts ≡ Ok x → length x.1 < length ts
 next_shorter functions earlier ts x b h = event_shorter functions (tally_of earlier) ts x b h
 
-pub events_turn : (functions : List Function) (tally : Tally) (earlier : List Event) (ts us : List Lexeme) (event : Event) → tally ≡ tally_of earlier → is_event ts ≡ true → event_at functions tally ts ≡ Ok (event, us) → events_at functions earlier ts ≡ events_at functions (earlier ++ event ∷ []) us
+pub events_turn : (functions : List Function) (tally : Tally) (earlier : List Event) (ts us : List Lexeme) (event : Event) → tally ≡ tally_of earlier →
+    is_event ts ≡ true → event_at functions tally ts ≡ Ok (event, us) → events_at functions earlier ts ≡ events_at functions (earlier ++ event ∷ []) us
 unfolding events_at front
 events_turn functions tally earlier ts us event same b h =
     all_goes is_event (next_event functions) refl (next_shorter functions) earlier ts (event, us) b (ap (λ s. event_at functions s ts) (sym same) ∙ h)
 
-pub events_fail : (functions : List Function) (tally : Tally) (earlier : List Event) (ts : List Lexeme) (e : Refused) → tally ≡ tally_of earlier → is_event ts ≡ true → event_at functions tally ts ≡ Err e → events_at functions earlier ts ≡ Err e
+pub events_fail : (functions : List Function) (tally : Tally) (earlier : List Event) (ts : List Lexeme) (e : Refused) → tally ≡ tally_of earlier →
+    is_event ts ≡ true → event_at functions tally ts ≡ Err e → events_at functions earlier ts ≡ Err e
 unfolding events_at front
 events_fail functions tally earlier ts e same b h =
     all_fails is_event (next_event functions) refl (next_shorter functions) earlier ts e b (ap (λ s. event_at functions s ts) (sym same) ∙ h)
 
-pub events_stop : (functions : List Function) (earlier : List Event) (ts : List Lexeme) → is_event ts ≡ false → events_at functions earlier ts ≡ Ok (earlier, ts)
+pub events_stop : (functions : List Function) (earlier : List Event) (ts : List Lexeme) → is_event ts ≡ false →
+    events_at functions earlier ts ≡ Ok (earlier, ts)
 unfolding events_at front
 events_stop functions earlier ts b = all_stops is_event (next_event functions) refl (next_shorter functions) earlier ts b

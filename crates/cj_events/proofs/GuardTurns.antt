@@ -28,7 +28,8 @@ equation_within earlier ts =
 pub guard_within : (earlier : ℕ) (ts : List Lexeme) → Within Guard (length (behind ts)) (guard_at earlier ts)
 unfolding guard_at
 guard_within earlier ts =
-    cond_within (is_terminal terminal.Never (front (behind ts))) (length (behind ts)) _ _ (never_within earlier (behind ts)) (equation_within earlier (behind ts))
+    cond_within (is_terminal terminal.Never (front (behind ts))) (length (behind ts)) _ _ (never_within earlier (behind ts))
+        (equation_within earlier (behind ts))
 
 pub guard_shorter : (earlier : ℕ) (ts : List Lexeme) (x : Guard × List Lexeme) → is_comma ts ≡ true → guard_at earlier ts ≡ Ok x → length x.1 < length ts
 unfolding front
@@ -37,14 +38,17 @@ guard_shorter earlier ts x b h =
     let l : length x.1 ≤ length (behind ts) = (guard_within earlier ts).within x h in
     omega arith
 
-pub next_shorter : (earlier : List Guard) (ts : List Lexeme) (x : Guard × List Lexeme) → is_comma ts ≡ true → next_guard earlier ts ≡ Ok x → length x.1 < length ts
+pub next_shorter : (earlier : List Guard) (ts : List Lexeme) (x : Guard × List Lexeme) → is_comma ts ≡ true → next_guard earlier ts ≡ Ok x →
+    length x.1 < length ts
 next_shorter earlier ts x b h = guard_shorter (length earlier) ts x b h
 
-pub guards_turn : (earlier : List Guard) (ts us : List Lexeme) (guard : Guard) → is_comma ts ≡ true → guard_at (length earlier) ts ≡ Ok (guard, us) → more_guards_at earlier ts ≡ more_guards_at (earlier ++ guard ∷ []) us
+pub guards_turn : (earlier : List Guard) (ts us : List Lexeme) (guard : Guard) → is_comma ts ≡ true → guard_at (length earlier) ts ≡ Ok (guard, us) →
+    more_guards_at earlier ts ≡ more_guards_at (earlier ++ guard ∷ []) us
 unfolding more_guards_at front
 guards_turn earlier ts us guard b h = all_goes is_comma next_guard refl next_shorter earlier ts (guard, us) b h
 
-pub guards_fail : (earlier : List Guard) (ts : List Lexeme) (e : Refused) → is_comma ts ≡ true → guard_at (length earlier) ts ≡ Err e → more_guards_at earlier ts ≡ Err e
+pub guards_fail : (earlier : List Guard) (ts : List Lexeme) (e : Refused) → is_comma ts ≡ true → guard_at (length earlier) ts ≡ Err e →
+    more_guards_at earlier ts ≡ Err e
 unfolding more_guards_at front
 guards_fail earlier ts e b h = all_fails is_comma next_guard refl next_shorter earlier ts e b h
 

@@ -12,7 +12,8 @@ use Rattle.cj_tokens.specs.declared.terminal.Terminal.TheVariants as terminal
 use Rattle.cj_grammar.specs.Reading.{offence}
 use Rattle.cj_script.proofs.Turns.{behind_within, Within, ok_within, err_within, judged_within, then_within, cond_within, all_stops, all_fails, all_goes}
 use Rattle.cj_events.specs.Meaning.{label_of, label_offences}
-use Rattle.cj_events.specs.Reading.{is_number, next_label, labels_at, is_comma, guard_at, next_guard, more_guards_at, guards_at, is_pass, anchors_at, assume_at, delay_at, inline_at, any_pass_at, pass_at, next_pass, passes_at}
+use Rattle.cj_events.specs.Reading.{is_number, next_label, labels_at, is_comma, guard_at, next_guard, more_guards_at, guards_at, is_pass, anchors_at,
+    assume_at, delay_at, inline_at, any_pass_at, pass_at, next_pass, passes_at}
 use Rattle.cj_events.proofs.GuardTurns.{guard_within}
 use Rattle.cj_events.proofs.LabelTurns.{label_within}
 use Rattle.cj_events.proofs.ManyTurns.{all_within}
@@ -27,7 +28,8 @@ more_guards_within earlier ts = all_within is_comma next_guard (λ before us. wi
   where
     widely : (n : ℕ) (us : List Lexeme) → Within Guard (length us) (guard_at n us)
     widely n us = record {
-      within = λ y h. let l : length y.1 ≤ length (behind us) = (guard_within n us).within y h in let m : length (behind us) ≤ length us = behind_within us in omega arith;
+      within = λ y h. let l : length y.1 ≤ length (behind us) = (guard_within n us).within y h in let m : length
+          (behind us) ≤ length us = behind_within us in omega arith;
     }
 
 guards_within : (ts : List Lexeme) → Within (List Guard) (length ts) (guards_at ts)
@@ -94,11 +96,13 @@ pass_shorter earlier ts x b h =
 pub next_shorter : (earlier : List Pass) (ts : List Lexeme) (x : Pass × List Lexeme) → is_pass ts ≡ true → next_pass earlier ts ≡ Ok x → length x.1 < length ts
 next_shorter earlier ts x b h = pass_shorter (length earlier) ts x b h
 
-pub passes_turn : (earlier : List Pass) (ts us : List Lexeme) (pass : Pass) → is_pass ts ≡ true → pass_at (length earlier) ts ≡ Ok (pass, us) → passes_at earlier ts ≡ passes_at (earlier ++ pass ∷ []) us
+pub passes_turn : (earlier : List Pass) (ts us : List Lexeme) (pass : Pass) → is_pass ts ≡ true → pass_at (length earlier) ts ≡ Ok (pass, us) →
+    passes_at earlier ts ≡ passes_at (earlier ++ pass ∷ []) us
 unfolding passes_at front
 passes_turn earlier ts us pass b h = all_goes is_pass next_pass refl next_shorter earlier ts (pass, us) b h
 
-pub passes_fail : (earlier : List Pass) (ts : List Lexeme) (e : Refused) → is_pass ts ≡ true → pass_at (length earlier) ts ≡ Err e → passes_at earlier ts ≡ Err e
+pub passes_fail : (earlier : List Pass) (ts : List Lexeme) (e : Refused) → is_pass ts ≡ true → pass_at (length earlier) ts ≡ Err e →
+    passes_at earlier ts ≡ Err e
 unfolding passes_at front
 passes_fail earlier ts e b h = all_fails is_pass next_pass refl next_shorter earlier ts e b h
 
@@ -112,5 +116,6 @@ passes_within earlier ts = all_within is_pass next_pass (λ before us. widely (l
   where
     widely : (n : ℕ) (us : List Lexeme) → Within Pass (length us) (pass_at n us)
     widely n us = record {
-      within = λ y h. let l : length y.1 ≤ length (behind us) = (pass_within n us).within y h in let m : length (behind us) ≤ length us = behind_within us in omega arith;
+      within = λ y h. let l : length y.1 ≤ length (behind us) = (pass_within n us).within y h in let m : length
+          (behind us) ≤ length us = behind_within us in omega arith;
     }

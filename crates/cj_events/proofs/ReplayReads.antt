@@ -38,25 +38,35 @@ has_functions ts sentence = laws.has_functions program_offences program_of histo
 -- ---- what came of the two readers
 
 -- the functions were refused
-pub functions_fail : (ts : List Lexeme) (e : ParseError) → GivesFirst program_offences program_of ts (Err e) [] → (t : Tree replay) → leaves replay t ≡ ts → Agrees {X = Replay} (Err e) (replay_offences t) (replay_of t)
+pub functions_fail : (ts : List Lexeme) (e : ParseError) → GivesFirst program_offences program_of ts (Err e) [] → (t : Tree replay) → leaves replay t ≡ ts →
+    Agrees {X = Replay} (Err e) (replay_offences t) (replay_of t)
 unfolding replay replay_offences replay_of
-functions_fail ts e gives (functions, (happened, last)) is = laws.first_fails program_offences program_of history history_offences history_of replay_with no_function ts e gives (functions, (happened, last)) is
+functions_fail ts e gives (functions, (happened, last)) is = laws.first_fails program_offences program_of history history_offences history_of replay_with
+    no_function ts e gives (functions, (happened, last)) is
 
 -- the functions were read, and then the events were refused
-pub events_fail : (ts us : List Lexeme) (p : Program) (e : ParseError) → GivesFirst program_offences program_of ts (Ok p) us → GivesSecond history (history_offences p) (history_of p) us (Err e) [] → (t : Tree replay) → leaves replay t ≡ ts → Agrees {X = Replay} (Err e) (replay_offences t) (replay_of t)
+pub events_fail : (ts us : List Lexeme) (p : Program) (e : ParseError) → GivesFirst program_offences program_of ts (Ok p) us →
+    GivesSecond history (history_offences p) (history_of p) us (Err e) [] → (t : Tree replay) → leaves replay t ≡ ts →
+    Agrees {X = Replay} (Err e) (replay_offences t) (replay_of t)
 unfolding replay replay_offences replay_of
-events_fail ts us p e gives then (functions, (happened, last)) is = laws.second_fails program_offences program_of history history_offences history_of replay_with no_function ts us p e gives then (functions, (happened, last)) is
+events_fail ts us p e gives then (functions, (happened, last)) is = laws.second_fails program_offences program_of history history_offences history_of
+    replay_with no_function ts us p e gives then (functions, (happened, last)) is
 
 -- both were read
-pub both_read : (ts us left : List Lexeme) (p : Program) (happened : List Event) → GivesFirst program_offences program_of ts (Ok p) us → GivesSecond history (history_offences p) (history_of p) us (Ok happened) left → (t : Tree replay) → leaves replay t ≡ ts → Agrees (Ok (replay_with p happened)) (replay_offences t) (replay_of t)
+pub both_read : (ts us left : List Lexeme) (p : Program) (happened : List Event) → GivesFirst program_offences program_of ts (Ok p) us →
+    GivesSecond history (history_offences p) (history_of p) us (Ok happened) left → (t : Tree replay) → leaves replay t ≡ ts →
+    Agrees (Ok (replay_with p happened)) (replay_offences t) (replay_of t)
 unfolding replay replay_offences replay_of
-both_read ts us left p given gives then (functions, (happened, last)) is = laws.both_read program_offences program_of history history_offences history_of replay_with no_function ts us left p given gives then (functions, (happened, last)) is
+both_read ts us left p given gives then (functions, (happened, last)) is = laws.both_read program_offences program_of history history_offences history_of
+    replay_with no_function ts us left p given gives then (functions, (happened, last)) is
 
 -- and what was read fits
-pub both_fit : (ts us left : List Lexeme) (p : Program) (happened : List Event) → GivesFirst program_offences program_of ts (Ok p) us → GivesSecond history (history_offences p) (history_of p) us (Ok happened) left → IsSentence replay ts → FitsEvents p happened
+pub both_fit : (ts us left : List Lexeme) (p : Program) (happened : List Event) → GivesFirst program_offences program_of ts (Ok p) us →
+    GivesSecond history (history_offences p) (history_of p) us (Ok happened) left → IsSentence replay ts → FitsEvents p happened
 unfolding replay
 both_fit ts us left p given gives then ((functions, (happened, last)), is) =
-    let read = laws.first_read program_offences program_of history history_offences history_of replay_with no_function ts us p gives (functions, (happened, last)) is in
+    let read = laws.first_read program_offences program_of history history_offences history_of replay_with no_function ts us p gives
+        (functions, (happened, last)) is in
     let second = laws.reads_ok (history_offences p happened) (history_of p happened) given _ left (then happened last.token [] read.rest last.is) in
     rw second.value (history_fits p happened second.fine)
 
@@ -72,7 +82,8 @@ pub replay_offended : (bytes : List ℕ) (e : ParseError) → IsSentence replay 
 replay_offended bytes NoMemory sentence agrees = tt
 replay_offended bytes (Refused first) sentence agrees = laws.offended replay replay_offences replay_of (lexemes_of bytes) first sentence agrees
 
-pub replay_only : (bytes : List ℕ) (result : Result Replay ParseError) → IsSentence replay (lexemes_of bytes) → AgreesWithTrees bytes result → IsOnlyReplay bytes result
+pub replay_only : (bytes : List ℕ) (result : Result Replay ParseError) → IsSentence replay (lexemes_of bytes) → AgreesWithTrees bytes result →
+    IsOnlyReplay bytes result
 replay_only bytes result sentence agrees = laws.only_meant replay replay_offences replay_of (lexemes_of bytes) result sentence agrees
 
 pub replay_first : (bytes : List ℕ) (first : refusal.Refused) → IsFirstOffence replay (lexemes_of bytes) first → IsOnlyReplay bytes (Err (Refused first))

@@ -17,8 +17,7 @@ fn read_never(tokens: &mut Tokens<'_>, earlier: usize) -> Result<Guard, ParseErr
     ensures source { source tokens.new ≡ source tokens.old }
 {
     let token = tokens.take();
-    let guard = never_guard(earlier, token)?;
-    Ok(guard)
+    never_guard(earlier, token)
 }
 
 /// A register and its value, behind so many other guards.

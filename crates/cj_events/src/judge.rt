@@ -75,6 +75,5 @@ pub fn step_count(spent: u32, token: Lexeme<'_>) -> Result<u32, ParseError>
     if token.number > 4_000_000 - spent as i64 {
         return Err(refused(token, Kind::TooMany));
     }
-    let number = number_within(token, 1, 1_000_000)?;
-    Ok(number)
+    number_within(token, 1, 1_000_000)
 }

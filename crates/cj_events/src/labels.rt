@@ -17,8 +17,7 @@ fn read_label(tokens: &mut Tokens<'_>, earlier: usize) -> Result<Label, ParseErr
     ensures source { source tokens.new ≡ source tokens.old }
 {
     let token = tokens.take();
-    let label = listed_label(earlier, token)?;
-    Ok(label)
+    listed_label(earlier, token)
 }
 
 /// The labels that stand next.

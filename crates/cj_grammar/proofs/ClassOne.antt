@@ -17,7 +17,8 @@ use Rattle.cj_grammar.proofs.ContentsLaws.{in_second}
 use Rattle.cj_grammar.proofs.FirstBad.{bad_before_end}
 
 -- What is refused is the line and the kind of the token at which the reader failed.
-pub first_offence : (r : Rule) (ts rest : List Lexeme) → is_plain r [] ≡ true → is_ended r ≡ true → HasOneEnd ts → eat r ts ≡ Err rest → IsFirstOffence r ts (offence (front rest) (class_one (front rest)))
+pub first_offence : (r : Rule) (ts rest : List Lexeme) → is_plain r [] ≡ true → is_ended r ≡ true → HasOneEnd ts → eat r ts ≡ Err rest →
+    IsFirstOffence r ts (offence (front rest) (class_one (front rest)))
 unfolding front
 first_offence r ts rest p w h e =
     let i : (t : Lexeme) × (after : List Lexeme) × (rest ≡ t ∷ after) × IsFirstBad r ts t = bad_before_end r ts rest p w h e in
@@ -40,7 +41,8 @@ last_is_end (alt a b) (inr t) h = last_is_end b t (and_true (ends_with_end a) (e
 last_is_end (opt a) t h = cc
 last_is_end (many a) t h = cc
 
-none_behind : (us xs : List Lexeme) (e l : Lexeme) → lacks (Is End) xs ≡ true → is_terminal End e ≡ true → (rest : List Lexeme) → us ++ e ∷ rest ≡ xs ++ l ∷ [] → rest ≡ []
+none_behind : (us xs : List Lexeme) (e l : Lexeme) → lacks (Is End) xs ≡ true → is_terminal End e ≡ true → (rest : List Lexeme) →
+    us ++ e ∷ rest ≡ xs ++ l ∷ [] → rest ≡ []
 none_behind us xs e l k h rest q =
     let i : (vs : List Lexeme) × (l ∷ [] ≡ vs ++ e ∷ rest) × (us ≡ xs ++ vs) = in_second (Is End) xs (l ∷ []) us rest e k h (sym q) in
     only_one i.0 i.1

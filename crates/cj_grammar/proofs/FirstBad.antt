@@ -12,7 +12,8 @@ use Rattle.cj_grammar.proofs.Local.{local}
 use Rattle.cj_grammar.proofs.ContentsLaws.{end_is_last}
 
 -- The first token that is left after a failure begins no sentence with those before it.
-pub no_front : (r : Rule) (next : List Sign) (u : List Lexeme) (t : Lexeme) (s : List Lexeme) → is_plain r next ≡ true → eat r (u ++ t ∷ s) ≡ Err (t ∷ s) → IsFront r (u ++ t ∷ []) → ⊥
+pub no_front : (r : Rule) (next : List Sign) (u : List Lexeme) (t : Lexeme) (s : List Lexeme) → is_plain r next ≡ true → eat r (u ++ t ∷ s) ≡ Err (t ∷ s) →
+    IsFront r (u ++ t ∷ []) → ⊥
 no_front r next u t s p h f =
     let same : (u ++ t ∷ []) ++ f.0 ≡ u ++ t ∷ f.0 = append_assoc u (t ∷ []) f.0 in
     let all : leaves r f.1.0 ++ [] ≡ u ++ t ∷ f.0 = append-nil (leaves r f.1.0) ∙ (f.1.1 ∙ same) in
@@ -41,7 +42,8 @@ never_out r ts p w h e =
     cc
 
 -- So, before an end, each failure is at such a token.
-pub bad_before_end : (r : Rule) (ts rest : List Lexeme) → is_plain r [] ≡ true → is_ended r ≡ true → HasOneEnd ts → eat r ts ≡ Err rest → (t : Lexeme) × (after : List Lexeme) × (rest ≡ t ∷ after) × IsFirstBad r ts t
+pub bad_before_end : (r : Rule) (ts rest : List Lexeme) → is_plain r [] ≡ true → is_ended r ≡ true → HasOneEnd ts → eat r ts ≡ Err rest →
+    (t : Lexeme) × (after : List Lexeme) × (rest ≡ t ∷ after) × IsFirstBad r ts t
 bad_before_end r ts [] p w h e = absurd (never_out r ts p w h e)
 bad_before_end r ts (t ∷ after) p w h e = (t, after, refl, first_bad r [] ts after t p e)
 
@@ -51,7 +53,8 @@ sentence_is_good r ts t s b =
     b.bad (b.after, (s.0, s.1 ∙ (b.split ∙ sym (append_assoc b.before (t ∷ []) b.after))))
 
 -- two places in the same tokens
-places : (u v : List Lexeme) (t x : Lexeme) (s w : List Lexeme) → u ++ t ∷ s ≡ v ++ x ∷ w → (t ≡ x) ⊎ (((y : List Lexeme) × (u ≡ v ++ x ∷ y)) ⊎ ((y : List Lexeme) × (v ≡ u ++ t ∷ y)))
+places : (u v : List Lexeme) (t x : Lexeme) (s w : List Lexeme) → u ++ t ∷ s ≡ v ++ x ∷ w →
+    (t ≡ x) ⊎ (((y : List Lexeme) × (u ≡ v ++ x ∷ y)) ⊎ ((y : List Lexeme) × (v ≡ u ++ t ∷ y)))
 places [] [] t x s w q = inl (let e : t ≡ x = cc in e)
 places [] (b ∷ v) t x s w q = let e : t ≡ b = cc in inr (inr (v, ap (λ z. z ∷ v) (sym e)))
 places (a ∷ u) [] t x s w q = let e : a ≡ x = cc in inr (inl (u, ap (λ z. z ∷ u) e))

@@ -1,5 +1,6 @@
 -- What `eat` answers depends on no token behind the first one that it leaves.
-use Rattle.std.proofs.Common.{◌≡◌, ℕ, zero, suc, ◌+◌, ◌<◌, ◌≤◌, true, false, cond, List, [], ◌∷◌, ◌++◌, length, Result, Ok, Err, refl, ap, sym, ◌∙◌, append_assoc, inl, inr, arith, length-append}
+use Rattle.std.proofs.Common.{◌≡◌, ℕ, zero, suc, ◌+◌, ◌<◌, ◌≤◌, true, false, cond, List, [], ◌∷◌, ◌++◌, length, Result, Ok, Err, refl, ap, sym, ◌∙◌,
+    append_assoc, inl, inr, arith, length-append}
 use Rattle.std.specs.Prelude.{flat_map, not, ◌&&◌}
 use Rattle.cj_tokens.specs.Lexemes.{Lexeme, Sign, fits}
 use Rattle.cj_grammar.specs.Grammar.{Rule, tok, seq, alt, opt, many, Tree, leaves, IsFront}
@@ -20,7 +21,8 @@ suffix r ts w (Ok y) h = let i : (t : Tree r) × (leaves r t ++ (y ++ w) ≡ ts)
 suffix r ts w (Err y) h = let i : (u : List Lexeme) × (u ++ (y ++ w) ≡ ts) × IsFront r u = stuck r ts (y ++ w) h in
     (i.0 ++ y, sym i.1 ∙ sym (append_assoc i.0 y w))
 
-suffix_many : (a : Rule) (n : ℕ) (ts w : List Lexeme) (x : Result (List Lexeme) (List Lexeme)) → eat_many (eat a) (starts a) n ts ≡ with_tail w x → (v : List Lexeme) × (ts ≡ v ++ w)
+suffix_many : (a : Rule) (n : ℕ) (ts w : List Lexeme) (x : Result (List Lexeme) (List Lexeme)) → eat_many (eat a) (starts a) n ts ≡ with_tail w x →
+    (v : List Lexeme) × (ts ≡ v ++ w)
 suffix_many a n ts w (Ok y) h = let i : (t : List (Tree a)) × (flat_map (leaves a) t ++ (y ++ w) ≡ ts) = sound_many a (sound a) n ts (y ++ w) h in
     (flat_map (leaves a) i.0 ++ y, sym i.1 ∙ sym (append_assoc (flat_map (leaves a) i.0) y w))
 suffix_many a n ts w (Err y) h = let i : (u : List Lexeme) × (u ++ (y ++ w) ≡ ts) × IsFront (many a) u = stuck_many a (stuck a) n ts (y ++ w) h in
@@ -31,13 +33,15 @@ same_start r [] t s s' = refl
 same_start r (c ∷ u) t s s' = refl
 
 -- nothing was taken
-kept : (u : List Lexeme) (t : Lexeme) (s s' : List Lexeme) (x : Result (List Lexeme) (List Lexeme)) → Ok (u ++ t ∷ s) ≡ with_tail (t ∷ s) x → Ok (u ++ t ∷ s') ≡ with_tail (t ∷ s') x
+kept : (u : List Lexeme) (t : Lexeme) (s s' : List Lexeme) (x : Result (List Lexeme) (List Lexeme)) → Ok (u ++ t ∷ s) ≡ with_tail (t ∷ s) x →
+    Ok (u ++ t ∷ s') ≡ with_tail (t ∷ s') x
 kept u t s s' (Ok y) h =
     let e : u ++ t ∷ s ≡ y ++ t ∷ s = cc in
     let f : u ≡ y = append_cancel_right u y (t ∷ s) e in rw f refl
 kept u t s s' (Err y) h = cc
 
-refused : (u : List Lexeme) (t : Lexeme) (s s' : List Lexeme) (x : Result (List Lexeme) (List Lexeme)) → Err (u ++ t ∷ s) ≡ with_tail (t ∷ s) x → Err (u ++ t ∷ s') ≡ with_tail (t ∷ s') x
+refused : (u : List Lexeme) (t : Lexeme) (s s' : List Lexeme) (x : Result (List Lexeme) (List Lexeme)) → Err (u ++ t ∷ s) ≡ with_tail (t ∷ s) x →
+    Err (u ++ t ∷ s') ≡ with_tail (t ∷ s') x
 refused u t s s' (Err y) h =
     let e : u ++ t ∷ s ≡ y ++ t ∷ s = cc in
     let f : u ≡ y = append_cancel_right u y (t ∷ s) e in rw f refl
@@ -54,7 +58,8 @@ taken t s s' (Ok y) h = let e : s ≡ y ++ t ∷ s = cc in absurd (too_long y t 
 taken t s s' (Err y) h = cc
 
 abbrev pub Local : Rule → Type 0
-Local r = (next : List Sign) (u : List Lexeme) (t : Lexeme) (s s' : List Lexeme) (x : Result (List Lexeme) (List Lexeme)) → is_plain r next ≡ true → eat r (u ++ t ∷ s) ≡ with_tail (t ∷ s) x → eat r (u ++ t ∷ s') ≡ with_tail (t ∷ s') x
+Local r = (next : List Sign) (u : List Lexeme) (t : Lexeme) (s s' : List Lexeme) (x : Result (List Lexeme) (List Lexeme)) → is_plain r next ≡ true →
+    eat r (u ++ t ∷ s) ≡ with_tail (t ∷ s) x → eat r (u ++ t ∷ s') ≡ with_tail (t ∷ s') x
 
 local_tok : (k : Sign) → Local (tok k)
 local_tok k next [] t s s' x p h =
@@ -69,11 +74,16 @@ local_tok k next (c ∷ u) t s s' x p h =
     ]
 
 -- a part that failed, and one that went by
-err_tail : (f : List Lexeme → Result (List Lexeme) (List Lexeme)) (t : Lexeme) (e s : List Lexeme) (x : Result (List Lexeme) (List Lexeme)) → (Err e >>= f) ≡ with_tail (t ∷ s) x → (y : List Lexeme) × (x ≡ Err y) × (e ≡ y ++ t ∷ s)
+err_tail : (f : List Lexeme → Result (List Lexeme) (List Lexeme)) (t : Lexeme) (e s : List Lexeme) (x : Result (List Lexeme) (List Lexeme)) →
+    (Err e >>= f) ≡ with_tail (t ∷ s) x → (y : List Lexeme) × (x ≡ Err y) × (e ≡ y ++ t ∷ s)
 err_tail f t e s (Ok y) h = cc
 err_tail f t e s (Err y) h = (y, refl, let g : e ≡ y ++ t ∷ s = cc in g)
 
-local_seq : (a : Rule) (f : List Lexeme → Result (List Lexeme) (List Lexeme)) → Local a → (next : List Sign) → is_plain a next ≡ true → (u : List Lexeme) (t : Lexeme) (s s' : List Lexeme) (x : Result (List Lexeme) (List Lexeme)) → ((m : List Lexeme) → f m ≡ with_tail (t ∷ s) x → (v : List Lexeme) × (m ≡ v ++ t ∷ s)) → ((v : List Lexeme) → eat a (u ++ t ∷ s) ≡ Ok (v ++ t ∷ s) → f (v ++ t ∷ s) ≡ with_tail (t ∷ s) x → f (v ++ t ∷ s') ≡ with_tail (t ∷ s') x) → (eat a (u ++ t ∷ s) >>= f) ≡ with_tail (t ∷ s) x → (eat a (u ++ t ∷ s') >>= f) ≡ with_tail (t ∷ s') x
+local_seq : (a : Rule) (f : List Lexeme → Result (List Lexeme) (List Lexeme)) → Local a → (next : List Sign) → is_plain a next ≡ true →
+    (u : List Lexeme) (t : Lexeme) (s s' : List Lexeme) (x : Result (List Lexeme) (List Lexeme)) →
+    ((m : List Lexeme) → f m ≡ with_tail (t ∷ s) x → (v : List Lexeme) × (m ≡ v ++ t ∷ s)) →
+    ((v : List Lexeme) → eat a (u ++ t ∷ s) ≡ Ok (v ++ t ∷ s) → f (v ++ t ∷ s) ≡ with_tail (t ∷ s) x → f (v ++ t ∷ s') ≡ with_tail (t ∷ s') x) →
+    (eat a (u ++ t ∷ s) >>= f) ≡ with_tail (t ∷ s) x → (eat a (u ++ t ∷ s') >>= f) ≡ with_tail (t ∷ s') x
 local_seq a f l next p u t s s' x suf again h =
     elim (known (eat a (u ++ t ∷ s))) [
       | inl m ↦
@@ -91,7 +101,10 @@ local_seq a f l next p u t s s' x suf again h =
           rw e2 (ap (λ z. with_tail (t ∷ s') z) (sym y.1))
     ]
 
-local_many : (a : Rule) → Local a → (next : List Sign) → is_plain a next ≡ true → is_empty a ≡ false → (n n' : ℕ) (u : List Lexeme) (t : Lexeme) (s s' : List Lexeme) (x : Result (List Lexeme) (List Lexeme)) → length (u ++ t ∷ s) ≤ n → length (u ++ t ∷ s') ≤ n' → eat_many (eat a) (starts a) n (u ++ t ∷ s) ≡ with_tail (t ∷ s) x → eat_many (eat a) (starts a) n' (u ++ t ∷ s') ≡ with_tail (t ∷ s') x
+local_many : (a : Rule) → Local a → (next : List Sign) → is_plain a next ≡ true → is_empty a ≡ false →
+    (n n' : ℕ) (u : List Lexeme) (t : Lexeme) (s s' : List Lexeme) (x : Result (List Lexeme) (List Lexeme)) → length (u ++ t ∷ s) ≤ n →
+    length (u ++ t ∷ s') ≤ n' → eat_many (eat a) (starts a) n (u ++ t ∷ s) ≡ with_tail (t ∷ s) x →
+    eat_many (eat a) (starts a) n' (u ++ t ∷ s') ≡ with_tail (t ∷ s') x
 local_many a l next p e zero n' u t s s' x h h' g =
     let k : length (u ++ t ∷ s) ≡ length u + length (t ∷ s) = length-append u (t ∷ s) in absurd (omega arith)
 local_many a l next p e (suc n) zero u t s s' x h h' g =
@@ -127,11 +140,15 @@ local_many a l next p e (suc n) (suc n') u t s s' x h h' g =
 pub local : (r : Rule) → Local r
 local (tok k) next u t s s' x p h = local_tok k next u t s s' x p h
 local (seq a b) next u t s s' x p h =
-    let q : (is_plain a (firsts b ++ cond (is_empty b) next []) ≡ true) × (is_plain b next ≡ true) = and_true (is_plain a (firsts b ++ cond (is_empty b) next [])) (is_plain b next) p in
-    local_seq a (eat b) (local a) (firsts b ++ cond (is_empty b) next []) q.0 u t s s' x (λ m g. suffix b m (t ∷ s) x g) (λ v c g. local b next v t s s' x q.1 g) h
+    let q : (is_plain a (firsts b ++ cond (is_empty b) next []) ≡ true)
+        × (is_plain b next ≡ true) = and_true (is_plain a (firsts b ++ cond (is_empty b) next [])) (is_plain b next) p in
+    local_seq a (eat b) (local a) (firsts b ++ cond (is_empty b) next []) q.0 u t s s' x (λ m g. suffix b m (t ∷ s) x g)
+        (λ v c g. local b next v t s s' x q.1 g) h
 local (alt a b) next u t s s' x p h =
-    let q : (is_plain a next ≡ true) × ((is_plain b next && (not (is_empty a) && (not (is_empty b) && are_apart (firsts a) (firsts b)))) ≡ true) = and_true (is_plain a next) (is_plain b next && (not (is_empty a) && (not (is_empty b) && are_apart (firsts a) (firsts b)))) p in
-    let q2 : (is_plain b next ≡ true) × ((not (is_empty a) && (not (is_empty b) && are_apart (firsts a) (firsts b))) ≡ true) = and_true (is_plain b next) (not (is_empty a) && (not (is_empty b) && are_apart (firsts a) (firsts b))) q.1 in
+    let q : (is_plain a next ≡ true) × ((is_plain b next && (not (is_empty a) && (not (is_empty b) && are_apart (firsts a) (firsts b)))) ≡ true) = and_true
+        (is_plain a next) (is_plain b next && (not (is_empty a) && (not (is_empty b) && are_apart (firsts a) (firsts b)))) p in
+    let q2 : (is_plain b next ≡ true) × ((not (is_empty a) && (not (is_empty b) && are_apart (firsts a) (firsts b))) ≡ true) = and_true (is_plain b next)
+        (not (is_empty a) && (not (is_empty b) && are_apart (firsts a) (firsts b))) q.1 in
     elim (known_bool (starts a (u ++ t ∷ s))) [
       | inl b1 ↦
           let g : eat a (u ++ t ∷ s) ≡ with_tail (t ∷ s) x = rw b1 at h in
@@ -143,7 +160,8 @@ local (alt a b) next u t s s' x p h =
           rw b2 (local b next u t s s' x q2.0 g)
     ]
 local (opt a) next u t s s' x p h =
-    let q : (is_plain a next ≡ true) × ((not (is_empty a) && are_apart (firsts a) next) ≡ true) = and_true (is_plain a next) (not (is_empty a) && are_apart (firsts a) next) p in
+    let q : (is_plain a next ≡ true) × ((not (is_empty a) && are_apart (firsts a) next) ≡ true) = and_true (is_plain a next)
+        (not (is_empty a) && are_apart (firsts a) next) p in
     elim (known_bool (starts a (u ++ t ∷ s))) [
       | inl b1 ↦
           let g : eat a (u ++ t ∷ s) ≡ with_tail (t ∷ s) x = rw b1 at h in
@@ -155,6 +173,8 @@ local (opt a) next u t s s' x p h =
           rw b2 (kept u t s s' x g)
     ]
 local (many a) next u t s s' x p h =
-    let q : (is_plain a (firsts a ++ next) ≡ true) × ((not (is_empty a) && are_apart (firsts a) next) ≡ true) = and_true (is_plain a (firsts a ++ next)) (not (is_empty a) && are_apart (firsts a) next) p in
+    let q : (is_plain a (firsts a ++ next) ≡ true) × ((not (is_empty a) && are_apart (firsts a) next) ≡ true) = and_true (is_plain a (firsts a ++ next))
+        (not (is_empty a) && are_apart (firsts a) next) p in
     let q2 : (not (is_empty a) ≡ true) × (are_apart (firsts a) next ≡ true) = and_true (not (is_empty a)) (are_apart (firsts a) next) q.1 in
-    local_many a (local a) (firsts a ++ next) q.0 (not_true (is_empty a) q2.0) (length (u ++ t ∷ s)) (length (u ++ t ∷ s')) u t s s' x (omega arith) (omega arith) h
+    local_many a (local a) (firsts a ++ next) q.0 (not_true (is_empty a) q2.0) (length (u ++ t ∷ s)) (length (u ++ t ∷ s')) u t s s' x (omega arith)
+        (omega arith) h

@@ -8,7 +8,8 @@ use Rattle.cj_grammar.proofs.Eats.{known}
 use Rattle.cj_grammar.proofs.Begins.{shorter}
 
 -- `eat (many a)` turn by turn
-enough : (a : Rule) → is_empty a ≡ false → (n n' : ℕ) (ts : List Lexeme) → length ts ≤ n → length ts ≤ n' → eat_many (eat a) (starts a) n ts ≡ eat_many (eat a) (starts a) n' ts
+enough : (a : Rule) → is_empty a ≡ false → (n n' : ℕ) (ts : List Lexeme) → length ts ≤ n → length ts ≤ n' →
+    eat_many (eat a) (starts a) n ts ≡ eat_many (eat a) (starts a) n' ts
 enough a e zero zero ts h h' = refl
 enough a e zero (suc n') [] h h' = refl
 enough a e zero (suc n') (t ∷ ts) h h' = absurd (omega arith)
@@ -26,7 +27,8 @@ pub many_turn : (a : Rule) (ts : List Lexeme) → is_empty a ≡ false → eat (
 many_turn a [] e = refl
 many_turn a (t ∷ ts) e = elim (known_bool (starts a (t ∷ ts))) [
   | inl b ↦ rw b (elim (known (eat a (t ∷ ts))) [
-    | inl m ↦ let d : length m.0 < length (t ∷ ts) = shorter a (t ∷ ts) m.0 e m.1 in rw m.1 (enough a e (length ts) (length m.0) m.0 (omega arith) (omega arith))
+    | inl m ↦ let d : length m.0 < length (t ∷ ts) = shorter a (t ∷ ts) m.0 e m.1 in rw m.1
+        (enough a e (length ts) (length m.0) m.0 (omega arith) (omega arith))
     | inr m ↦ rw m.1 refl
   ])
   | inr b ↦ rw b refl

@@ -17,7 +17,8 @@ use Rattle.cj_grammar.proofs.FirstBad.{sentence_is_good, one_bad}
 
 -- ---- what `reads` gives
 
-pub reads_err : {X : Type 0} (es : List refusal.Refused) (x : X) (ts : List Lexeme) (r : refusal.Refused) → reads es x ts ≡ Err r → (more : List refusal.Refused) × (es ≡ r ∷ more)
+pub reads_err : {X : Type 0} (es : List refusal.Refused) (x : X) (ts : List Lexeme) (r : refusal.Refused) → reads es x ts ≡ Err r →
+    (more : List refusal.Refused) × (es ≡ r ∷ more)
 reads_err [] x ts r is = cc
 reads_err (e ∷ es) x ts r is = let same : e ≡ r = cc in (es, ap (λ f. f ∷ es) same)
 
@@ -41,14 +42,17 @@ reads_ok (e ∷ es) x y ts us is = cc
 -- ---- functions and what stands behind them, where what that means depends on them
 
 -- what their reader gave
-abbrev pub GivesFirst : {P : Type 0} (offences : Tree funs → List refusal.Refused) (means : Tree funs → P) → List Lexeme → Result P ParseError → List Lexeme → Type 0
+abbrev pub GivesFirst : {P : Type 0} (offences : Tree funs → List refusal.Refused) (means : Tree funs → P) → List Lexeme → Result P ParseError → List Lexeme →
+    Type 0
 GivesFirst offences means ts result left =
     (rest : List Lexeme) (past : GoesPast ts rest) → Gives result left (reads (offences past.tree) (means past.tree) rest)
 
 -- and what the reader behind it gave, up to the last token
-abbrev pub GivesSecond : {Y : Type 0} (r : Rule) (offences : Tree r → List refusal.Refused) (means : Tree r → Y) → List Lexeme → Result Y ParseError → List Lexeme → Type 0
+abbrev pub GivesSecond : {Y : Type 0} (r : Rule) (offences : Tree r → List refusal.Refused) (means : Tree r → Y) → List Lexeme → Result Y ParseError →
+    List Lexeme → Type 0
 GivesSecond r offences means ts result left =
-    (t : Tree r) (last : Lexeme) (rest : List Lexeme) → ts ≡ leaves r t ++ last ∷ rest → is_terminal End last ≡ true → Gives result left (reads (offences t) (means t) (last ∷ rest))
+    (t : Tree r) (last : Lexeme) (rest : List Lexeme) → ts ≡ leaves r t ++ last ∷ rest → is_terminal End last ≡ true →
+        Gives result left (reads (offences t) (means t) (last ∷ rest))
 
 module _ {P Y X : Type 0}
     (first_offences : Tree funs → List refusal.Refused) (first_of : Tree funs → P)
@@ -70,21 +74,25 @@ module _ {P Y X : Type 0}
   has_functions ts sentence = (_, past_of sentence.0 ts sentence.1)
 
   -- the functions were refused
-  pub first_fails : (ts : List Lexeme) (e : ParseError) → GivesFirst first_offences first_of ts (Err e) [] → (t : Tree Text) → leaves Text t ≡ ts → Agrees (Err e) (offences_of t) (meaning_of t)
+  pub first_fails : (ts : List Lexeme) (e : ParseError) → GivesFirst first_offences first_of ts (Err e) [] → (t : Tree Text) → leaves Text t ≡ ts →
+      Agrees (Err e) (offences_of t) (meaning_of t)
   first_fails ts NoMemory gives (functions, (behind, last)) is = tt
   first_fails ts (Refused e) gives (functions, (behind, last)) is =
       let failed = reads_err (first_offences functions) (first_of functions) _ e (gives _ (past_of (functions, (behind, last)) ts is)) in
       let later = offences (first_of functions) behind in (failed.0 ++ later, ap (λ es. es ++ later) failed.1)
 
   -- the functions were read, so all offences are those of the rest
-  pub first_read : (ts left : List Lexeme) (p : P) → GivesFirst first_offences first_of ts (Ok p) left → (t : Tree Text) → leaves Text t ≡ ts → IsMeaning (first_offences t.0) (first_of t.0) p (leaves r t.1.0 ++ t.1.1.token ∷ []) left
+  pub first_read : (ts left : List Lexeme) (p : P) → GivesFirst first_offences first_of ts (Ok p) left → (t : Tree Text) → leaves Text t ≡ ts →
+      IsMeaning (first_offences t.0) (first_of t.0) p (leaves r t.1.0 ++ t.1.1.token ∷ []) left
   first_read ts left p gives t is = reads_ok (first_offences t.0) (first_of t.0) p _ left (gives _ (past_of t ts is))
 
-  rest_alone : (functions : Tree funs) (behind : Tree r) (p : P) → first_offences functions ≡ [] → p ≡ first_of functions → first_offences functions ++ offences (first_of functions) behind ≡ offences p behind
+  rest_alone : (functions : Tree funs) (behind : Tree r) (p : P) → first_offences functions ≡ [] → p ≡ first_of functions →
+      first_offences functions ++ offences (first_of functions) behind ≡ offences p behind
   rest_alone functions behind p fine same = ap (λ es. es ++ offences (first_of functions) behind) fine ∙ ap (λ q. offences q behind) (sym same)
 
   -- and the rest was refused
-  pub second_fails : (ts us : List Lexeme) (p : P) (e : ParseError) → GivesFirst first_offences first_of ts (Ok p) us → GivesSecond r (offences p) (means p) us (Err e) [] → (t : Tree Text) → leaves Text t ≡ ts → Agrees (Err e) (offences_of t) (meaning_of t)
+  pub second_fails : (ts us : List Lexeme) (p : P) (e : ParseError) → GivesFirst first_offences first_of ts (Ok p) us →
+      GivesSecond r (offences p) (means p) us (Err e) [] → (t : Tree Text) → leaves Text t ≡ ts → Agrees (Err e) (offences_of t) (meaning_of t)
   second_fails ts us p NoMemory gives then (functions, (behind, last)) is = tt
   second_fails ts us p (Refused e) gives then (functions, (behind, last)) is =
       let read = first_read ts us p gives (functions, (behind, last)) is in
@@ -92,7 +100,8 @@ module _ {P Y X : Type 0}
       (failed.0, rest_alone functions behind p read.fine read.value ∙ failed.1)
 
   -- or read too
-  pub both_read : (ts us left : List Lexeme) (p : P) (y : Y) → GivesFirst first_offences first_of ts (Ok p) us → GivesSecond r (offences p) (means p) us (Ok y) left → (t : Tree Text) → leaves Text t ≡ ts → Agrees (Ok (whole p y)) (offences_of t) (meaning_of t)
+  pub both_read : (ts us left : List Lexeme) (p : P) (y : Y) → GivesFirst first_offences first_of ts (Ok p) us →
+      GivesSecond r (offences p) (means p) us (Ok y) left → (t : Tree Text) → leaves Text t ≡ ts → Agrees (Ok (whole p y)) (offences_of t) (meaning_of t)
   both_read ts us left p y gives then (functions, (behind, last)) is =
       let read = first_read ts us p gives (functions, (behind, last)) is in
       let second = reads_ok (offences p behind) (means p behind) y _ left (then behind last.token [] read.rest last.is) in
@@ -107,13 +116,15 @@ module _ {X : Type 0} (g : Rule) (offences : Tree g → List refusal.Refused) (m
       let a = agrees sentence.0 sentence.1 in
       record { tree = sentence.0; tokens = sentence.1; fine = a.0; meaning = a.1 }
 
-  pub offended : (first : refusal.Refused) → IsSentence g ts → ((t : Tree g) → leaves g t ≡ ts → Agrees {X = X} (Err (Refused first)) (offences t) (means t)) → Reads g offences means ts (Err first)
+  pub offended : (first : refusal.Refused) → IsSentence g ts → ((t : Tree g) → leaves g t ≡ ts → Agrees {X = X} (Err (Refused first)) (offences t) (means t)) →
+      Reads g offences means ts (Err first)
   offended first sentence agrees =
       let a = agrees sentence.0 sentence.1 in
       inr (record { tree = sentence.0; tokens = sentence.1; more = a.0; first = a.1 })
 
   -- a sentence is read as one thing alone
-  pub only_meant : (result : Result X ParseError) → IsSentence g ts → ((t : Tree g) → leaves g t ≡ ts → Agrees result (offences t) (means t)) → (answer : Result X refusal.Refused) → Reads g offences means ts answer → IsAnswer answer result
+  pub only_meant : (result : Result X ParseError) → IsSentence g ts → ((t : Tree g) → leaves g t ≡ ts → Agrees result (offences t) (means t)) →
+      (answer : Result X refusal.Refused) → Reads g offences means ts answer → IsAnswer answer result
   only_meant (Err NoMemory) sentence agrees answer reads = no_claim answer
     where
       no_claim : (answer : Result X refusal.Refused) → IsAnswer {X = X} answer (Err NoMemory)
@@ -133,7 +144,8 @@ module _ {X : Type 0} (g : Rule) (offences : Tree g → List refusal.Refused) (m
       let both : e ∷ second.more ≡ f ∷ a.0 = sym second.first ∙ a.1 in cc
 
   -- and no sentence as its first bad token
-  pub only_first : (f : refusal.Refused) → IsFirstOffence g ts f → (answer : Result X refusal.Refused) → Reads g offences means ts answer → IsAnswer {X = X} answer (Err (Refused f))
+  pub only_first : (f : refusal.Refused) → IsFirstOffence g ts f → (answer : Result X refusal.Refused) → Reads g offences means ts answer →
+      IsAnswer {X = X} answer (Err (Refused f))
   only_first f found (Ok v) spells = absurd (sentence_is_good g ts found.token (spells.tree, spells.tokens) found.first)
   only_first f found (Err e) (inl first) =
       let same : first.token ≡ found.token = one_bad g ts first.token found.token first.first found.first in

@@ -9,7 +9,9 @@ use Rattle.cj_tokens.specs.declared.terminal.Terminal.{Terminal}
 use Rattle.cj_tokens.specs.declared.terminal.Terminal.TheVariants.{Fun}
 use Rattle.cj_grammar.specs.Grammar.{Rule, many, Tree, leaves, IsSentence}
 use Rattle.cj_grammar.specs.OneAhead.{is_empty, is_plain, starts, ◌>>=◌, eat, eat_many}
-use Rattle.cj_grammar.specs.Rules.{operand, more_operands, operands, more_names, names, binary, expr, target, nop_instr, op_instr, cond_instr, call_instr, return_instr, print_instr, load_instr, store_instr, fail_instr, instr, line, lines, head, fun, more_funs, funs, guess_setup, edge, cold_setup, warm_setup, setup, setups, numbers, begun, script_call, script_calls, script, input}
+use Rattle.cj_grammar.specs.Rules.{operand, more_operands, operands, more_names, names, binary, expr, target, nop_instr, op_instr, cond_instr, call_instr,
+    return_instr, print_instr, load_instr, store_instr, fail_instr, instr, line, lines, head, fun, more_funs, funs, guess_setup, edge, cold_setup, warm_setup,
+    setup, setups, numbers, begun, script_call, script_calls, script, input}
 use Rattle.cj_grammar.specs.Reading.{offence}
 use Rattle.cj_grammar.specs.Offences.{class_one, IsFirstOffence}
 use Rattle.cj_grammar.specs.Shapes.{GoesPast, HasFunctions}
@@ -27,7 +29,8 @@ ends a zero (t ∷ ts) rest e l h = absurd (omega arith)
 ends a (suc n) ts rest e l h =
     elim (chosen (starts a ts) (eat a ts >>= eat_many (eat a) (starts a) n) (Ok ts) (Ok rest) h) [
       | inl p ↦
-          let b : (x : List Lexeme) × (eat a ts ≡ Ok x) × (eat_many (eat a) (starts a) n x ≡ Ok rest) = bind_ok (eat a ts) (eat_many (eat a) (starts a) n) rest p.1 in
+          let b : (x : List Lexeme) × (eat a ts ≡ Ok x) × (eat_many (eat a) (starts a) n x ≡ Ok rest) = bind_ok (eat a ts)
+              (eat_many (eat a) (starts a) n) rest p.1 in
           let s : length b.0 < length ts = shorter a ts b.0 e b.1 in
           ends a n b.0 rest e (omega arith) b.2
       | inr p ↦ let r : ts ≡ rest = cc in ap (starts a) (sym r) ∙ p.0
@@ -51,21 +54,25 @@ funs_past old new h =
     record { tree = i.0; all = i.1; no_more = no_more_funs old new h }
 
 pub funs_end : (old new : List Lexeme) → HasOneEnd old → eat funs old ≡ Ok new → HasOneEnd new
-unfolding operand more_operands operands more_names names binary expr target nop_instr op_instr cond_instr call_instr return_instr print_instr load_instr store_instr fail_instr instr line lines head fun more_funs funs
+unfolding operand more_operands operands more_names names binary expr target nop_instr op_instr cond_instr call_instr return_instr print_instr load_instr
+    store_instr fail_instr instr line lines head fun more_funs funs
 funs_end old new h e =
     let i : (t : Tree funs) × (leaves funs t ++ new ≡ old) = sound funs old new e in
     end_stays funs i.0 old new refl i.1 h
 
 pub funs_offence : (old rest : List Lexeme) → HasOneEnd old → eat funs old ≡ Err rest → IsFirstOffence funs old (offence (front rest) (class_one (front rest)))
-unfolding operand more_operands operands more_names names binary expr target nop_instr op_instr cond_instr call_instr return_instr print_instr load_instr store_instr fail_instr instr line lines head fun more_funs funs
+unfolding operand more_operands operands more_names names binary expr target nop_instr op_instr cond_instr call_instr return_instr print_instr load_instr
+    store_instr fail_instr instr line lines head fun more_funs funs
 funs_offence old rest h e = first_offence funs old rest refl refl h e
 
 plain_before : (k : Terminal) → nat_eq (number_of k) (number_of Fun) ≡ false → is_plain funs (Is k ∷ []) ≡ true
-unfolding operand more_operands operands more_names names binary expr target nop_instr op_instr cond_instr call_instr return_instr print_instr load_instr store_instr fail_instr instr line lines head fun more_funs funs
+unfolding operand more_operands operands more_names names binary expr target nop_instr op_instr cond_instr call_instr return_instr print_instr load_instr
+    store_instr fail_instr instr line lines head fun more_funs funs
 plain_before k h = rw h refl
 
 funs_plain : is_plain funs [] ≡ true
-unfolding operand more_operands operands more_names names binary expr target nop_instr op_instr cond_instr call_instr return_instr print_instr load_instr store_instr fail_instr instr line lines head fun more_funs funs
+unfolding operand more_operands operands more_names names binary expr target nop_instr op_instr cond_instr call_instr return_instr print_instr load_instr
+    store_instr fail_instr instr line lines head fun more_funs funs
 funs_plain = refl
 
 -- Functions are gone past, wherever no further one begins behind them.
@@ -80,8 +87,11 @@ pub funs_none : (old rest : List Lexeme) → eat funs old ≡ Err rest → HasFu
 funs_none old rest e f =
     let g : eat funs old ≡ Ok f.0 = ap (eat funs) (sym f.1.all) ∙ past_funs f.1.tree f.0 f.1.no_more in cc
 
-pub input_offence : (old rest : List Lexeme) → HasOneEnd old → eat input old ≡ Err rest → IsFirstOffence input old (offence (front rest) (class_one (front rest)))
-unfolding operand more_operands operands more_names names binary expr target nop_instr op_instr cond_instr call_instr return_instr print_instr load_instr store_instr fail_instr instr line lines head fun more_funs funs guess_setup edge cold_setup warm_setup setup setups numbers begun script_call script_calls script input
+pub input_offence : (old rest : List Lexeme) → HasOneEnd old → eat input old ≡ Err rest →
+    IsFirstOffence input old (offence (front rest) (class_one (front rest)))
+unfolding operand more_operands operands more_names names binary expr target nop_instr op_instr cond_instr call_instr return_instr print_instr load_instr
+    store_instr fail_instr instr line lines head fun more_funs funs guess_setup edge cold_setup warm_setup setup setups numbers begun script_call script_calls
+    script input
 input_offence old rest h e = first_offence input old rest refl refl h e
 
 pub input_whole : (old rest : List Lexeme) → HasOneEnd old → eat input old ≡ Ok rest → IsSentence input old

@@ -12,7 +12,8 @@ not_or false true h = cc
 not_or false false h = (refl, refl)
 
 -- no item is one, where no test passes
-pub none_passing : {A : Type 0} (test : A → Bool) (P : A → Type 0) → ((x : A) → Decides (test x) (P x)) → (xs : List A) → list_any test xs ≡ false → All (λ x. P x → ⊥) xs
+pub none_passing : {A : Type 0} (test : A → Bool) (P : A → Type 0) → ((x : A) → Decides (test x) (P x)) → (xs : List A) → list_any test xs ≡ false →
+    All (λ x. P x → ⊥) xs
 none_passing test P decides [] e = All-nil (λ y. P y → ⊥)
 none_passing test P decides (x ∷ xs) e =
     let parts : (test x ≡ false) × (list_any test xs ≡ false) = or_parts (test x) (list_any test xs) e in

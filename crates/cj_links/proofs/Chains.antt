@@ -1,5 +1,6 @@
 -- Chains of nodes, as one node is led to another.
-use Rattle.std.proofs.Common.{◌≡◌, ◌≢◌, ℕ, ◌<◌, Bool, not, cond, List, [], ◌∷◌, ◌++◌, length, get_or, refl, sym, ap, ◌∙◌, subst, ⊎_elim, arith, length-set, get_or-set_same, get_or-set_other}
+use Rattle.std.proofs.Common.{◌≡◌, ◌≢◌, ℕ, ◌<◌, Bool, not, cond, List, [], ◌∷◌, ◌++◌, length, get_or, refl, sym, ap, ◌∙◌, subst, ⊎_elim, arith, length-set,
+    get_or-set_same, get_or-set_other}
 use Rattle.std.specs.Prelude.{filter, Contains, slice_set, nat_eq}
 use Rattle.std.proofs.lemmas.Bool.{cases_eq, eq-eqb, ne_eqb}
 use Rattle.cj_links.specs.declared.edges.Node.{Node}
@@ -55,12 +56,14 @@ module _ (nodes : List Node) (p q : ℕ) (p_in : p < length nodes) (q_in : q < l
       ap (λ (v : Node). v.before) (other_node (with_after nodes p q) q i (node p (after_of (with_after nodes p q) q)) h) ∙ before_first i
 
   -- a chain without the two stays
-  pub chain_lead : (a : ℕ) (path : List ℕ) (z : ℕ) → Chain nodes a path z → a ≢ p → z ≢ q → (Contains path p → ⊥) → (Contains path q → ⊥) → Chain (lead nodes p q) a path z
+  pub chain_lead : (a : ℕ) (path : List ℕ) (z : ℕ) → Chain nodes a path z → a ≢ p → z ≢ q → (Contains path p → ⊥) → (Contains path q → ⊥) →
+      Chain (lead nodes p q) a path z
   chain_lead a [] z c ap' zq pp qq = (after_lead_other a ap' ∙ c.0, before_lead_other z zq ∙ c.1)
   chain_lead a (b ∷ path) z c ap' zq pp qq = (
     after_lead_other a ap' ∙ c.0,
     before_lead_other b (λ e. qq (subst (Contains (b ∷ path)) e (contains-head b path))) ∙ c.1,
-    chain_lead b path z c.2 (λ e. pp (subst (Contains (b ∷ path)) e (contains-head b path))) zq (λ m. pp (contains-tail b p path m)) (λ m. qq (contains-tail b q path m)),
+    chain_lead b path z c.2 (λ e. pp (subst (Contains (b ∷ path)) e (contains-head b path))) zq (λ m. pp (contains-tail b p path m))
+        (λ m. qq (contains-tail b q path m)),
   )
 
 -- ---- what comes before and after
@@ -106,7 +109,8 @@ left_absent x (b ∷ path) h =
     ∙ ap (λ (rest : List ℕ). b ∷ rest) (left_absent x path (λ m. h (contains-tail b x path m)))
 
 -- the first of a chain taken out: what comes before it leads to what comes after it
-cut_first : (nodes : List Node) (a x : ℕ) (path : List ℕ) (z p q : ℕ) → p ≡ a → q ≡ after_of nodes x → p < length nodes → q < length nodes → Chain nodes x path z → (Contains path a → ⊥) → (Contains path z → ⊥) → Apart path → Chain (lead nodes p q) a path z
+cut_first : (nodes : List Node) (a x : ℕ) (path : List ℕ) (z p q : ℕ) → p ≡ a → q ≡ after_of nodes x → p < length nodes → q < length nodes →
+    Chain nodes x path z → (Contains path a → ⊥) → (Contains path z → ⊥) → Apart path → Chain (lead nodes p q) a path z
 cut_first nodes a x [] z p q pa qx p_in q_in c ha hz once =
     let qz : q ≡ z = qx ∙ c.0 in (
       ap (after_of (lead nodes p q)) (sym pa) ∙ after_lead nodes p q p_in q_in ∙ qz,
@@ -123,7 +127,8 @@ cut_first nodes a x (y ∷ path) z p q pa qx p_in q_in c ha hz once =
           (λ m. once.0 (subst (Contains path) qy m)),
     )
 
-pub cut : (nodes : List Node) (a : ℕ) (path : List ℕ) (z x p q : ℕ) → p ≡ before_of nodes x → q ≡ after_of nodes x → p < length nodes → q < length nodes → Chain nodes a path z → Contains path x → (Contains path a → ⊥) → (Contains path z → ⊥) → Apart path → Chain (lead nodes p q) a (left_of x path) z
+pub cut : (nodes : List Node) (a : ℕ) (path : List ℕ) (z x p q : ℕ) → p ≡ before_of nodes x → q ≡ after_of nodes x → p < length nodes → q < length nodes →
+    Chain nodes a path z → Contains path x → (Contains path a → ⊥) → (Contains path z → ⊥) → Apart path → Chain (lead nodes p q) a (left_of x path) z
 cut nodes a [] z x p q px qx p_in q_in c m ha hz once = absurd (contains-none x m)
 cut nodes a (b ∷ path) z x p q px qx p_in q_in c m ha hz once = ⊎_elim
     (λ (same : b ≡ x).
@@ -152,7 +157,9 @@ cut nodes a (b ∷ path) z x p q px qx p_in q_in c m ha hz once = ⊎_elim
 abbrev pub lead_both : List Node → ℕ → ℕ → ℕ → List Node
 lead_both nodes p x z = lead (lead nodes p x) x z
 
-pub join : (nodes : List Node) (a : ℕ) (path : List ℕ) (z x p : ℕ) → p ≡ before_of nodes z → p < length nodes → x < length nodes → z < length nodes → Chain nodes a path z → a ≢ x → z ≢ x → (Contains path x → ⊥) → (Contains path a → ⊥) → (Contains path z → ⊥) → Apart path → Chain (lead_both nodes p x z) a (path ++ x ∷ []) z
+pub join : (nodes : List Node) (a : ℕ) (path : List ℕ) (z x p : ℕ) → p ≡ before_of nodes z → p < length nodes → x < length nodes → z < length nodes →
+    Chain nodes a path z → a ≢ x → z ≢ x → (Contains path x → ⊥) → (Contains path a → ⊥) → (Contains path z → ⊥) → Apart path →
+    Chain (lead_both nodes p x z) a (path ++ x ∷ []) z
 join nodes a [] z x p pz p_in x_in z_in c ax zx hx ha hz once =
     let one = lead nodes p x in
     let x_in' : x < length one = omega (arith, length-lead nodes p x) in

@@ -135,12 +135,15 @@ few_edges (suc n) list once below =
 
 -- ---- an edge appended
 
-pub append-once : (list : List EdgeId) (e : EdgeId) → (Contains list e → ⊥) → AllPairs (λ one other. one ≢ other) list → AllPairs (λ one other. one ≢ other) (list ++ e ∷ [])
-append-once list e new once = all_pairs_push (λ (one other : EdgeId). one ≢ other) list e once (λ k d lt same. new (subst (Contains list) same (Contains-get_or list k d lt)))
+pub append-once : (list : List EdgeId) (e : EdgeId) → (Contains list e → ⊥) → AllPairs (λ one other. one ≢ other) list →
+    AllPairs (λ one other. one ≢ other) (list ++ e ∷ [])
+append-once list e new once = all_pairs_push (λ (one other : EdgeId). one ≢ other) list e once
+    (λ k d lt same. new (subst (Contains list) same (Contains-get_or list k d lt)))
 
 -- ---- the nodes of what is left, and of one more
 
-pub nodes-without : (labels : ℕ) (e : EdgeId) (list : List EdgeId) → nodes_of labels (without e list) ≡ filter (λ at. not (nat_eq at (labels + e.0))) (nodes_of labels list)
+pub nodes-without : (labels : ℕ) (e : EdgeId) (list : List EdgeId) →
+    nodes_of labels (without e list) ≡ filter (λ at. not (nat_eq at (labels + e.0))) (nodes_of labels list)
 nodes-without labels e [] = refl
 nodes-without labels e (x ∷ list) = ⊎_elim
     (λ same.

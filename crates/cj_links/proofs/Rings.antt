@@ -1,10 +1,12 @@
 -- What a ring of waiting labels keeps.
-use Rattle.std.proofs.Common.{◌≡◌, ◌≢◌, ℕ, suc, ◌+◌, ◌-◌, ◌%◌, ◌<◌, Bool, true, false, List, [], ◌∷◌, ◌++◌, length, get_or, replicate, Some, refl, sym, ap, ◌∙◌, subst, ⊎_elim, arith, length-append, length-set}
+use Rattle.std.proofs.Common.{◌≡◌, ◌≢◌, ℕ, suc, ◌+◌, ◌-◌, ◌%◌, ◌<◌, Bool, true, false, List, [], ◌∷◌, ◌++◌, length, get_or, replicate, Some, refl, sym, ap,
+    ◌∙◌, subst, ⊎_elim, arith, length-append, length-set}
 use Rattle.std.specs.Prelude.{slice_get, slice_set, Contains, AllPairs}
 use Rattle.std.proofs.lemmas.Option.{same_Some, slice_get-get_or, slice_get_within}
 use Rattle.std.proofs.lemmas.List.{length-replicate}
 use Rattle.std.proofs.lemmas.List.Quantifiers.{all_pairs_push}
-use Rattle.std.proofs.lemmas.List.Elements.{All-nil, All-push, All-head, All-tail, Contains-get_or, Contains-append_left, Contains-append_right, Contains-append_cases, Contains-push_cases, Contains-push}
+use Rattle.std.proofs.lemmas.List.Elements.{All-nil, All-push, All-head, All-tail, Contains-get_or, Contains-append_left, Contains-append_right,
+    Contains-append_cases, Contains-push_cases, Contains-push}
 use Rattle.std.proofs.lemmas.Bool.{cases_eq}
 use Rattle.cj_ir.specs.declared.language.Label.{Label}
 use Rattle.cj_links.specs.Waiting.{waiting, IsOrderly}
@@ -43,7 +45,8 @@ ring_begins n x = record {
 
 -- ---- one label more
 
-marked_more : (list : List Label) (marks : List Bool) (x : Label) → AreMarked list marks → slice_get marks x.0 ≡ Some false → AreMarked (list ++ x ∷ []) (slice_set marks x.0 true)
+marked_more : (list : List Label) (marks : List Bool) (x : Label) → AreMarked list marks → slice_get marks x.0 ≡ Some false →
+    AreMarked (list ++ x ∷ []) (slice_set marks x.0 true)
 marked_more list marks x m at = record {
   number = length-append list (x ∷ []) ∙ ap (λ n. n + 1) m.number ∙ sym (count-set marks x.0 at);
   listed = λ y e. ⊎_elim
@@ -69,14 +72,16 @@ pub not_marked : (list : List Label) (marks : List Bool) (x : Label) → AreMark
 not_marked list marks x m at c =
     let f : true ≡ false = same_Some true false (sym (m.marked x c) ∙ at) in cc
 
-orderly_more : (n : ℕ) (list : List Label) (x : Label) → IsOrderly (waiting n list) → length list < n → x.0 < n → (Contains list x → ⊥) → IsOrderly (waiting n (list ++ x ∷ []))
+orderly_more : (n : ℕ) (list : List Label) (x : Label) → IsOrderly (waiting n list) → length list < n → x.0 < n → (Contains list x → ⊥) →
+    IsOrderly (waiting n (list ++ x ∷ []))
 orderly_more n list x o room within new = record {
   few = omega (arith, length-append list (x ∷ []));
   within = All-push (λ (y : Label). y.0 < n) list x o.within within;
   once = all_pairs_push (λ (one other : Label). one ≢ other) list x o.once (λ k d lt e. new (subst (Contains list) e (Contains-get_or list k d lt)));
 }
 
-pub ring_has_room : (slots : List Label) (k n : ℕ) (marks : List Bool) (x : Label) → IsRing slots k n marks → slice_get marks x.0 ≡ Some false → (n < length slots) × (k < length slots)
+pub ring_has_room : (slots : List Label) (k n : ℕ) (marks : List Bool) (x : Label) → IsRing slots k n marks → slice_get marks x.0 ≡ Some false →
+    (n < length slots) × (k < length slots)
 ring_has_room slots k n marks x r at =
     let within = slice_get_within marks x.0 false at in
     let some : k < length slots = omega (arith, r.lengths, r.start) in
@@ -84,12 +89,14 @@ ring_has_room slots k n marks x r at =
     let below = count-below marks x.0 at in
     (omega (arith, r.marks_of.number, r.lengths), some)
 
-pub ring_list_more : (slots : List Label) (k n : ℕ) (marks : List Bool) (x : Label) → IsRing slots k n marks → slice_get marks x.0 ≡ Some false → window k (n + 1) (slice_set slots ((k + n) % length slots) x) ≡ window k n slots ++ x ∷ []
+pub ring_list_more : (slots : List Label) (k n : ℕ) (marks : List Bool) (x : Label) → IsRing slots k n marks → slice_get marks x.0 ≡ Some false →
+    window k (n + 1) (slice_set slots ((k + n) % length slots) x) ≡ window k n slots ++ x ∷ []
 ring_list_more slots k n marks x r at =
     let room = ring_has_room slots k n marks x r at in
     window_after_put (length slots) k n slots room.1 r.few refl x room.0
 
-pub ring_more : (slots : List Label) (k n : ℕ) (marks : List Bool) (x : Label) → IsRing slots k n marks → slice_get marks x.0 ≡ Some false → IsRing (slice_set slots ((k + n) % length slots) x) k (n + 1) (slice_set marks x.0 true)
+pub ring_more : (slots : List Label) (k n : ℕ) (marks : List Bool) (x : Label) → IsRing slots k n marks → slice_get marks x.0 ≡ Some false →
+    IsRing (slice_set slots ((k + n) % length slots) x) k (n + 1) (slice_set marks x.0 true)
 ring_more slots k n marks x r at =
     let at_end = (k + n) % length slots in
     let room = ring_has_room slots k n marks x r at in
@@ -97,18 +104,21 @@ ring_more slots k n marks x r at =
     let same = ring_list_more slots k n marks x r at in
     let size = length-set slots at_end x in
     let len : length (window k n slots) ≡ n = length-window (length slots) k n slots room.1 r.few refl in
-    let orderly = orderly_more (length slots) (window k n slots) x r.orderly (omega (arith, len, room.0)) within (not_marked (window k n slots) marks x r.marks_of at) in
+    let orderly = orderly_more (length slots) (window k n slots) x r.orderly (omega (arith, len, room.0)) within
+        (not_marked (window k n slots) marks x r.marks_of at) in
     record {
       start = omega (arith, r.start, size);
       few = omega (arith, room.0, size);
       lengths = length-set marks x.0 true ∙ r.lengths ∙ sym size;
       marks_of = subst (λ list. AreMarked list (slice_set marks x.0 true)) (sym same) (marked_more (window k n slots) marks x r.marks_of at);
-      orderly = subst (λ m. IsOrderly (waiting m (window k (n + 1) (slice_set slots at_end x)))) (sym size) (subst (λ list. IsOrderly (waiting (length slots) list)) (sym same) orderly);
+      orderly = subst (λ m. IsOrderly (waiting m (window k (n + 1) (slice_set slots at_end x)))) (sym size)
+          (subst (λ list. IsOrderly (waiting (length slots) list)) (sym same) orderly);
     }
 
 -- ---- the longest waiting label goes
 
-marked_less : (list : List Label) (marks : List Bool) (x : Label) → AllPairs (λ one other. one ≢ other) (x ∷ list) → AreMarked (x ∷ list) marks → AreMarked list (slice_set marks x.0 false)
+marked_less : (list : List Label) (marks : List Bool) (x : Label) → AllPairs (λ one other. one ≢ other) (x ∷ list) → AreMarked (x ∷ list) marks →
+    AreMarked list (slice_set marks x.0 false)
 marked_less list marks x once m = record {
   number = let n = m.number in omega (arith, count-unset marks x.0 at);
   listed = λ y e. ⊎_elim
@@ -139,14 +149,16 @@ orderly_less n x list o = record {
 pub ring_start : (slots : List Label) (k n : ℕ) (marks : List Bool) → IsRing slots k n marks → 0 < n → k < length slots
 ring_start slots k n marks r some = omega (arith, r.start, r.few)
 
-pub ring_list_less : (slots : List Label) (k n : ℕ) (marks : List Bool) (x : Label) → IsRing slots k n marks → 0 < n → slice_get slots k ≡ Some x → window k n slots ≡ x ∷ window ((k + 1) % length slots) (n - 1) slots
+pub ring_list_less : (slots : List Label) (k n : ℕ) (marks : List Bool) (x : Label) → IsRing slots k n marks → 0 < n → slice_get slots k ≡ Some x →
+    window k n slots ≡ x ∷ window ((k + 1) % length slots) (n - 1) slots
 ring_list_less slots k n marks x r some at =
     let start = ring_start slots k n marks r some in
     let split = window_before_take (length slots) k n slots start r.few refl x some in
     let here : get_or slots k x ≡ x = same_Some (get_or slots k x) x (sym (slice_get-get_or slots k x start) ∙ at) in
     split ∙ ap (λ y. y ∷ window ((k + 1) % length slots) (n - 1) slots) here
 
-pub ring_less : (slots : List Label) (k n : ℕ) (marks : List Bool) (x : Label) → IsRing slots k n marks → 0 < n → slice_get slots k ≡ Some x → IsRing slots ((k + 1) % length slots) (n - 1) (slice_set marks x.0 false)
+pub ring_less : (slots : List Label) (k n : ℕ) (marks : List Bool) (x : Label) → IsRing slots k n marks → 0 < n → slice_get slots k ≡ Some x →
+    IsRing slots ((k + 1) % length slots) (n - 1) (slice_set marks x.0 false)
 ring_less slots k n marks x r some at =
     let start = ring_start slots k n marks r some in
     let rest = window ((k + 1) % length slots) (n - 1) slots in
@@ -160,7 +172,8 @@ ring_less slots k n marks x r some at =
       orderly = orderly_less (length slots) x rest orderly;
     }
 
-pub ring_within : (slots : List Label) (k n : ℕ) (marks : List Bool) (x : Label) → IsRing slots k n marks → 0 < n → slice_get slots k ≡ Some x → x.0 < length slots
+pub ring_within : (slots : List Label) (k n : ℕ) (marks : List Bool) (x : Label) → IsRing slots k n marks → 0 < n → slice_get slots k ≡ Some x →
+    x.0 < length slots
 ring_within slots k n marks x r some at =
     let same = ring_list_less slots k n marks x r some at in
     let orderly = subst (λ list. IsOrderly (waiting (length slots) list)) same r.orderly in
@@ -168,7 +181,8 @@ ring_within slots k n marks x r some at =
 
 -- ---- marks that are read
 
-pub mark_within : (slots : List Label) (k n : ℕ) (marks : List Bool) (x labels : ℕ) → IsRing slots k n marks → length slots ≡ labels → x < labels → x < length marks
+pub mark_within : (slots : List Label) (k n : ℕ) (marks : List Bool) (x labels : ℕ) → IsRing slots k n marks → length slots ≡ labels → x < labels →
+    x < length marks
 mark_within slots k n marks x labels r e h = omega (arith, r.lengths)
 
 pub mark_read : (marks read : List Bool) (x : ℕ) (mark : Bool) → read ≡ marks → x < length marks → get_or read x false ≡ mark → slice_get marks x ≡ Some mark

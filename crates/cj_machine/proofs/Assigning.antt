@@ -73,7 +73,9 @@ written_more pairs values place old now new d e within count is w =
     record {
       count = ap length set ∙ length-set (active_regs now) pair.dest.0 v ∙ w.count;
       top = rw set (is ∙ ap (λ a. with_regs a regs) w.top ∙ set_again old (active_regs now) regs);
-      left = λ from all. rw set (sym (assigns_more from (active_regs now) pairs values place pair v within (get_or_default pairs place d pair within) (get_or_default values place e v within') all) ∙ w.left from all);
+      left = λ from all. rw set
+          (sym (assigns_more from (active_regs now) pairs values place pair v within (get_or_default pairs place d pair within)
+          (get_or_default values place e v within') all) ∙ w.left from all);
     }
 
 pub written_all : (pairs : List Pair) (values : List ℤ) (n : ℕ) (old new : Active) → length pairs ≡ n → IsWritten pairs values n old new

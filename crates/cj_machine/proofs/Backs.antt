@@ -20,7 +20,9 @@ use Rattle.cj_machine.specs.Versions.{State, counted}
 use Rattle.cj_machine.specs.Stands.{BackStands}
 
 -- a pair of number 0 with the frames of the run's stack
-pub own_back : (P : Program) (call : Begun) (s : State) (below : List Waiting) (place : Place) (regs : List ℤ) (stack : Stack) (pair : Back) → RunAt P call s.base_turns s.printed (over stack below) s.memory → Same P stack (frames_of P place.point regs) → s.entries ≤ s.base_turns + 1 → IsOwn P place regs pair → BackStands P call s below regs pair
+pub own_back : (P : Program) (call : Begun) (s : State) (below : List Waiting) (place : Place) (regs : List ℤ) (stack : Stack) (pair : Back) →
+    RunAt P call s.base_turns s.printed (over stack below) s.memory → Same P stack (frames_of P place.point regs) → s.entries ≤ s.base_turns + 1 →
+    IsOwn P place regs pair → BackStands P call s below regs pair
 own_back P call s below place regs stack pair run same used own =
     let none = own.0 in
     let e : s.base_turns ≡ s.base_turns - pair.turns = omega arith in
@@ -46,7 +48,8 @@ printed_after : VersionEffect → List ℤ
 printed_after (Plain (On next regs m printed)) = printed
 printed_after e = []
 
-pub silent_keeps : (i : VInstr) (regs m : List ℤ) (next : Label) (regs' m' printed : List ℤ) → IsSilentIn i → version_effect i regs m ≡ Plain (On next regs' m' printed) → (regs ≡ regs') × (m ≡ m') × ([] ≡ printed)
+pub silent_keeps : (i : VInstr) (regs m : List ℤ) (next : Label) (regs' m' printed : List ℤ) → IsSilentIn i →
+    version_effect i regs m ≡ Plain (On next regs' m' printed) → (regs ≡ regs') × (m ≡ m') × ([] ≡ printed)
 unfolding IsSilentIn version_effect regs_after memory_after printed_after
 silent_keeps (Nop n) regs m next regs' m' printed s e = (ap regs_after e, ap memory_after e, ap printed_after e)
 silent_keeps (Cond t a b) regs m next regs' m' printed s e = (ap regs_after e, ap memory_after e, ap printed_after e)
@@ -62,13 +65,17 @@ silent_keeps (Assume g b t n) regs m next regs' m' printed s e = absurd s
 silent_keeps (Anchor b t n) regs m next regs' m' printed s e = absurd s
 
 -- the turns since a pair's frames, with one silent turn more
-more_silent : (P : Program) (call : Begun) (b j : ℕ) → ((i : ℕ) → b - j ≤ i → i < b → SilentAt P (base_run P call i)) → SilentAt P (base_run P call b) → (k i : ℕ) → k ≡ suc j → b + 1 - k ≤ i → i < b + 1 → SilentAt P (base_run P call i)
+more_silent : (P : Program) (call : Begun) (b j : ℕ) → ((i : ℕ) → b - j ≤ i → i < b → SilentAt P (base_run P call i)) → SilentAt P (base_run P call b) →
+    (k i : ℕ) → k ≡ suc j → b + 1 - k ≤ i → i < b + 1 → SilentAt P (base_run P call i)
 more_silent P call b j old here k i e l u =
     let le : i ≤ b = omega arith in
     ⊎_elim (λ eq. subst (λ n. SilentAt P (base_run P call n)) (sym eq) here) (λ lt. let low : b - j ≤ i = omega arith in old i low lt) (eq-or-lt_of_le le)
 
 -- a pair that a silent turn carries on
-pub carried_back : (P : Program) (call : Begun) (s : State) (below : List Waiting) (from : Place) (regs m printed : List ℤ) (stack : Stacked) (entries : ℕ) (pair : Back) (carried : IsCarried P from regs pair) → RunAt P call s.base_turns s.printed (over (frames_of P from.point regs) below) s.memory → s.memory ≡ m → [] ≡ printed → entries ≤ s.entries → BackStands P call s below regs (pair_of carried.before pair.point) → BackStands P call (counted s stack m printed entries) below regs pair
+pub carried_back : (P : Program) (call : Begun) (s : State) (below : List Waiting) (from : Place) (regs m printed : List ℤ) (stack : Stacked) (entries : ℕ)
+    (pair : Back) (carried : IsCarried P from regs pair) → RunAt P call s.base_turns s.printed (over (frames_of P from.point regs) below) s.memory →
+    s.memory ≡ m → [] ≡ printed → entries ≤ s.entries → BackStands P call s below regs (pair_of carried.before pair.point) →
+    BackStands P call (counted s stack m printed entries) below regs pair
 unfolding counted over
 carried_back P call s below from regs m printed stack entries pair carried run same_memory no_prints used b =
     let t = carried.turns in

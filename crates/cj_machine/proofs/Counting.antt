@@ -11,7 +11,9 @@ use Rattle.cj_machine.specs.VersionRuns.{first_state}
 use Rattle.cj_machine.specs.Stands.{versions_on_top, versions_waiting, CountsStand}
 
 -- a turn that counts a base turn
-pub counts_on : (s : State) (since row : ℕ) (stack : Stacked) (m printed : List ℤ) (entries : ℕ) → CountsStand s since row → entries ≤ s.entries + 1 → versions_on_top stack.top + versions_waiting stack.waiting + s.entries ≤ versions_on_top s.stack.top + versions_waiting s.stack.waiting + entries → CountsStand (counted s stack m printed entries) 0 8
+pub counts_on : (s : State) (since row : ℕ) (stack : Stacked) (m printed : List ℤ) (entries : ℕ) → CountsStand s since row → entries ≤ s.entries + 1 →
+    versions_on_top stack.top + versions_waiting stack.waiting + s.entries ≤ versions_on_top s.stack.top + versions_waiting s.stack.waiting + entries →
+    CountsStand (counted s stack m printed entries) 0 8
 unfolding counted
 counts_on s since row stack m printed entries c used versions =
     let h1 = c.entries in
@@ -22,7 +24,8 @@ counts_on s since row stack m printed entries c used versions =
     record { base_turns = omega arith; entries = omega arith; versions = omega arith; in_a_row = omega arith; turns = omega arith }
 
 -- an Assume that goes on
-pub counts_pass : (s : State) (since row : ℕ) (v : VersionFrame) (next : Label) → s.stack.top ≡ InVersion v → CountsStand s since (suc row) → CountsStand (passed s v next) (suc since) row
+pub counts_pass : (s : State) (since row : ℕ) (v : VersionFrame) (next : Label) → s.stack.top ≡ InVersion v → CountsStand s since (suc row) →
+    CountsStand (passed s v next) (suc since) row
 unfolding passed moved_to versions_on_top
 counts_pass s since row v next top c =
     let h1 = c.entries in
@@ -39,7 +42,8 @@ base_frames_waiting [] others = refl
 base_frames_waiting (w ∷ frames) others = base_frames_waiting frames others
 
 -- an Assume that fails
-pub counts_fail : (s : State) (since row : ℕ) (v : VersionFrame) (back : ℕ) (frames : Stack) → s.stack.top ≡ InVersion v → back ≤ 4 → back ≤ s.base_turns → back + s.entries ≤ s.base_turns + 1 → CountsStand s since (suc row) → CountsStand (rebuilt s back frames) (suc since) 0
+pub counts_fail : (s : State) (since row : ℕ) (v : VersionFrame) (back : ℕ) (frames : Stack) → s.stack.top ≡ InVersion v → back ≤ 4 → back ≤ s.base_turns →
+    back + s.entries ≤ s.base_turns + 1 → CountsStand s since (suc row) → CountsStand (rebuilt s back frames) (suc since) 0
 unfolding rebuilt versions_on_top
 counts_fail s since row v back frames top four within used c =
     let h1 = c.entries in

@@ -10,7 +10,8 @@ use Rattle.cj_ir.specs.declared.language.Program.{Program}
 use Rattle.cj_ir.specs.declared.language.Instr.{Instr}
 use Rattle.cj_ir.specs.declared.language.Instr.TheVariants as base
 use Rattle.cj_base.specs.declared.machine.Frame.{Frame}
-use Rattle.cj_base.specs.Machine.{Fault, BadAddress, ZeroDivisor, Effect, On, Calls, Returns, Faults, effect, with_value, cell, with_cell, op_effect, load_effect, store_effect}
+use Rattle.cj_base.specs.Machine.{Fault, BadAddress, ZeroDivisor, Effect, On, Calls, Returns, Faults, effect, with_value, cell, with_cell, op_effect,
+    load_effect, store_effect}
 use Rattle.cj_base.proofs.FitsLemmas.{fine_at}
 use Rattle.cj_draft.specs.declared.instructions.VInstr.{VInstr}
 use Rattle.cj_draft.specs.declared.instructions.VInstr.TheVariants.{Nop, Op, Move, Cond, Call, Return, Print, Load, Store, Fail, Assume, Anchor}
@@ -43,7 +44,8 @@ effect_takes P formed fr m (base.Print value next) at = tt
 effect_takes P formed fr m (base.Load dest a next) at =
     value_takes P (cell m (operand_value fr.regs a)) (BadAddress (operand_value fr.regs a)) (λ v. On next (slice_set fr.regs dest.0 v) m []) (λ v. tt)
 effect_takes P formed fr m (base.Store a v next) at =
-    value_takes P (cell m (operand_value fr.regs a)) (BadAddress (operand_value fr.regs a)) (λ w. On next fr.regs (with_cell m (operand_value fr.regs a) (operand_value fr.regs v)) []) (λ w. tt)
+    value_takes P (cell m (operand_value fr.regs a)) (BadAddress (operand_value fr.regs a))
+        (λ w. On next fr.regs (with_cell m (operand_value fr.regs a) (operand_value fr.regs v)) []) (λ w. tt)
 effect_takes P formed fr m (base.Fail text) at = tt
 
 -- a guarded effect is that of an Assume or Anchor with this next label
@@ -78,7 +80,8 @@ abbrev pub VersionCallsBy : VInstr → List ℤ → VersionEffect → Type 0
 VersionCallsBy i regs (Plain e) = CallsBy i regs e
 VersionCallsBy i regs (Guarded holds back target next) = ⊤
 
-value_calls : (i : VInstr) (regs : List ℤ) (o : Option ℤ) (fault : Fault) (go : ℤ → Effect) → ((v : ℤ) → CallsBy i regs (go v)) → CallsBy i regs (with_value o fault go)
+value_calls : (i : VInstr) (regs : List ℤ) (o : Option ℤ) (fault : Fault) (go : ℤ → Effect) → ((v : ℤ) → CallsBy i regs (go v)) →
+    CallsBy i regs (with_value o fault go)
 unfolding with_value
 value_calls i regs None fault go h = tt
 value_calls i regs (Some v) fault go h = h v
@@ -94,9 +97,11 @@ calls_by (Call dest f args next) regs m = (args, refl, refl)
 calls_by (Return value) regs m = tt
 calls_by (Print value next) regs m = tt
 calls_by (Load dest a next) regs m =
-    value_calls (Load dest a next) regs (cell m (operand_value regs a)) (BadAddress (operand_value regs a)) (λ v. On next (slice_set regs dest.0 v) m []) (λ v. tt)
+    value_calls (Load dest a next) regs (cell m (operand_value regs a)) (BadAddress (operand_value regs a)) (λ v. On next (slice_set regs dest.0 v) m [])
+        (λ v. tt)
 calls_by (Store a x next) regs m =
-    value_calls (Store a x next) regs (cell m (operand_value regs a)) (BadAddress (operand_value regs a)) (λ w. On next regs (with_cell m (operand_value regs a) (operand_value regs x)) []) (λ w. tt)
+    value_calls (Store a x next) regs (cell m (operand_value regs a)) (BadAddress (operand_value regs a))
+        (λ w. On next regs (with_cell m (operand_value regs a) (operand_value regs x)) []) (λ w. tt)
 calls_by (Fail f l) regs m = tt
 calls_by (Assume guards back target next) regs m = tt
 calls_by (Anchor back target next) regs m = tt

@@ -11,7 +11,9 @@ use Rattle.cj_activations.specs.Activations.{Active, InBase}
 use Rattle.cj_machine.specs.Versions.{Codes, version_entry, entered_at, offset_told, entered}
 
 -- nothing, the base body, or a version that the codes have
-pub by_entry : (P : Program) (codes : Codes) (look : Option Look) (f : FunId) (args : List ℤ) (Q : Option Active → Type 0) → Q None → Q (Some (InBase (entry_frame P f args))) → ((offset : ℕ) (code : Code) → codes f offset ≡ Some code → Q (Some (version_entry f offset args code))) → Q (entered P codes look f args)
+pub by_entry : (P : Program) (codes : Codes) (look : Option Look) (f : FunId) (args : List ℤ) (Q : Option Active → Type 0) → Q None →
+    Q (Some (InBase (entry_frame P f args))) → ((offset : ℕ) (code : Code) → codes f offset ≡ Some code → Q (Some (version_entry f offset args code))) →
+    Q (entered P codes look f args)
 unfolding entered entered_at offset_told
 by_entry P codes look f args Q none base version = by_look look
   where

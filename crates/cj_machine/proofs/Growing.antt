@@ -16,7 +16,8 @@ use Rattle.cj_draft.specs.Effects.{VersionEffect, Plain, Guarded, version_effect
 use Rattle.cj_draft.specs.Arrives.{place_at}
 use Rattle.cj_calls.specs.declared.report.Look.{Look}
 use Rattle.cj_activations.specs.Activations.{VersionFrame, Active, InBase, InVersion, Paused, BaseWaits, VersionWaits}
-use Rattle.cj_machine.specs.Versions.{State, Codes, Progress, Undefined, place_in, paused, version_entry, entered_at, offset_told, entered, enters, resumed_at, returns_to, turn_by, version_turn_by, turn_in_base, turn_in_version, turn_of, version_turn}
+use Rattle.cj_machine.specs.Versions.{State, Codes, Progress, Undefined, place_in, paused, version_entry, entered_at, offset_told, entered, enters, resumed_at,
+    returns_to, turn_by, version_turn_by, turn_in_base, turn_in_version, turn_of, version_turn}
 use Rattle.cj_machine.specs.Marks.{place_marks, marks_in, turn_marks}
 use Rattle.cj_machine.specs.CodeMaps.{Grows}
 use Rattle.cj_machine.specs.Stands.{IsPlaced, PausedIs, PausedAre, TopStands, Stands}
@@ -53,7 +54,8 @@ module _ (P : Program) (call : Begun) (codes later : Codes) (g : Grows codes lat
   all_grow [] frames h = h
   all_grow (a ∷ others) frames h = (h.0, h.1, paused_grows a h.0 h.2, all_grow others h.1 h.3, h.4)
 
-  top_grows : (s : State) (below : List Waiting) (row : ℕ) (a : Active) (stack : Stack) → TopStands P codes call s below row a stack → TopStands P later call s below row a stack
+  top_grows : (s : State) (below : List Waiting) (row : ℕ) (a : Active) (stack : Stack) → TopStands P codes call s below row a stack →
+      TopStands P later call s below row a stack
   top_grows s below row (InBase fr) stack h = h
   top_grows s below row (InVersion v) stack h =
       record { placed = placed_grows v h.placed; same = h.same; backs = h.backs; ahead = h.ahead }
@@ -75,7 +77,8 @@ module _ (P : Program) (call : Begun) (codes later : Codes) (g : Grows codes lat
 -- ---- turns
 
 module _ (P : Program) (codes later : Codes) (g : Grows codes later) where
-  code_kept : (v : VersionFrame) (o : Option Code) → codes v.function v.offset ≡ o → IsKept (option_and_then (λ (c : Code). place_at c v.label) o) (place_in later v)
+  code_kept : (v : VersionFrame) (o : Option Code) → codes v.function v.offset ≡ o →
+      IsKept (option_and_then (λ (c : Code). place_at c v.label) o) (place_in later v)
   unfolding place_in
   code_kept v None e = inl refl
   code_kept v (Some code) e = inr (sym (ap (option_and_then (λ (c : Code). place_at c v.label)) (g v.function v.offset code e)))
@@ -87,7 +90,8 @@ module _ (P : Program) (codes later : Codes) (g : Grows codes later) where
   by_place : (v : VersionFrame) (go : Option Place → Progress) → go None ≡ Undefined → Kept (go (place_in codes v)) (go (place_in later v))
   by_place v go none = ⊎_elim (λ e. inl (ap go e ∙ none)) (λ e. inr (ap go e)) (place_kept v)
 
-  offset_kept : (f : FunId) (n : ℕ) (args : List ℤ) (o : Option Code) → codes f n ≡ o → IsKept (option_map (version_entry f n args) o) (option_map (version_entry f n args) (later f n))
+  offset_kept : (f : FunId) (n : ℕ) (args : List ℤ) (o : Option Code) → codes f n ≡ o →
+      IsKept (option_map (version_entry f n args) o) (option_map (version_entry f n args) (later f n))
   offset_kept f n args None e = inl refl
   offset_kept f n args (Some code) e = inr (sym (ap (option_map (version_entry f n args)) (g f n code e)))
 
@@ -96,11 +100,13 @@ module _ (P : Program) (codes later : Codes) (g : Grows codes later) where
   at_kept f args zero = inr refl
   at_kept f args (suc n) = offset_kept f (suc n) args (codes f (suc n)) refl
 
-  told_kept : (f : FunId) (args : List ℤ) (o : Option ℕ) → IsKept (option_and_then (entered_at P codes f args) o) (option_and_then (entered_at P later f args) o)
+  told_kept : (f : FunId) (args : List ℤ) (o : Option ℕ) →
+      IsKept (option_and_then (entered_at P codes f args) o) (option_and_then (entered_at P later f args) o)
   told_kept f args None = inl refl
   told_kept f args (Some n) = at_kept f args n
 
-  pub entered_kept : (look next : Option Look) → IsKept look next → (f : FunId) (args : List ℤ) → IsKept (entered P codes look f args) (entered P later next f args)
+  pub entered_kept : (look next : Option Look) → IsKept look next → (f : FunId) (args : List ℤ) →
+      IsKept (entered P codes look f args) (entered P later next f args)
   unfolding entered
   entered_kept look next kept f args =
       let told = λ (o : Option Look). option_and_then (entered_at P codes f args) (option_and_then (offset_told f) o) in
@@ -158,7 +164,8 @@ module _ (P : Program) (codes later : Codes) (g : Grows codes later) where
 
   -- ---- marks
 
-  marks_kept_in : (look : Option Look) (s : State) (a : Active) → (turn_of P codes look s a ≡ Undefined) ⊎ (marks_in P codes s.memory a ≡ marks_in P later s.memory a)
+  marks_kept_in : (look : Option Look) (s : State) (a : Active) →
+      (turn_of P codes look s a ≡ Undefined) ⊎ (marks_in P codes s.memory a ≡ marks_in P later s.memory a)
   unfolding turn_of turn_in_version marks_in
   marks_kept_in look s (InBase fr) = inr refl
   marks_kept_in look s (InVersion v) =

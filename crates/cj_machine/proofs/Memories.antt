@@ -21,7 +21,8 @@ memory_going P call zero printed c e = sym (ap (λ (r : Run). memory_after r cal
 memory_going P call (suc n) printed c e = sym (ap (λ (r : Run). memory_after r (base_memory P call n)) e)
 
 -- where the next turn ended it
-pub memory_over : (P : Program) (call : Begun) (n : ℕ) (printed more : List ℤ) (c : Config) (end : End) (turns : ℕ) → base_run P call n ≡ Going printed c → base_run P call (n + 1) ≡ Over more end turns → c.memory ≡ base_memory P call (n + 1)
+pub memory_over : (P : Program) (call : Begun) (n : ℕ) (printed more : List ℤ) (c : Config) (end : End) (turns : ℕ) → base_run P call n ≡ Going printed c →
+    base_run P call (n + 1) ≡ Over more end turns → c.memory ≡ base_memory P call (n + 1)
 unfolding memory_after base_memory
 memory_over P call n printed more c end turns going over0 =
     let over : base_run P call (suc n) ≡ Over more end turns = subst (λ (k : ℕ). base_run P call k ≡ Over more end turns) (add-one n) over0 in
@@ -29,7 +30,8 @@ memory_over P call n printed more c end turns going over0 =
 
 -- ---- the versioned run
 
-pub memory_at : (P : Program) (codes : Codes) (trail : List Look) (call : Begun) (o : Progress) (memory : List ℤ) → version_run P codes trail call call.limit ≡ o → memory_in o ≡ Some memory → version_memory P codes trail call ≡ Some memory
+pub memory_at : (P : Program) (codes : Codes) (trail : List Look) (call : Begun) (o : Progress) (memory : List ℤ) →
+    version_run P codes trail call call.limit ≡ o → memory_in o ≡ Some memory → version_memory P codes trail call ≡ Some memory
 unfolding version_memory
 memory_at P codes trail call o memory run is = ap memory_in run ∙ is
 
@@ -42,11 +44,13 @@ unfolding memory_in
 memory_finishes end s = refl
 
 -- more code keeps it
-pub memory_kept : (P : Program) (call : Begun) (codes later : Codes) (trail : List Look) (memory : List ℤ) → Grows codes later → version_memory P codes trail call ≡ Some memory → version_memory P later trail call ≡ Some memory
+pub memory_kept : (P : Program) (call : Begun) (codes later : Codes) (trail : List Look) (memory : List ℤ) → Grows codes later →
+    version_memory P codes trail call ≡ Some memory → version_memory P later trail call ≡ Some memory
 unfolding version_memory memory_in
 memory_kept P call codes later trail memory g e =
     let kept : Kept (version_run P codes trail call call.limit) (version_run P later trail call call.limit) =
-    subst (λ t. Kept (version_run P codes trail call call.limit) (version_run P later t call call.limit)) (append-nil trail) (run_kept P call codes later g trail [] call.limit) in
+    subst (λ t. Kept (version_run P codes trail call call.limit) (version_run P later t call call.limit)) (append-nil trail)
+        (run_kept P call codes later g trail [] call.limit) in
     ⊎_elim
     (λ none.
     let nothing : None ≡ Some memory = sym (ap memory_in none) ∙ e in

@@ -15,7 +15,8 @@ use Rattle.cj_ir.proofs.ListReads.{all_at}
 use Rattle.cj_calls.specs.declared.report.Look.{Look}
 use Rattle.cj_calls.specs.declared.report.Report.{Report}
 use Rattle.cj_activations.specs.Activations.{Active, InBase, InVersion, Paused, BaseWaits, VersionWaits, Stacked}
-use Rattle.cj_machine.specs.Versions.{State, Codes, Progress, Continues, Finishes, Undefined, moved_to, paused, entered_at, offset_told, entered, counted, enters, returns_to, turn_by, turn_in_base, turn_of, version_turn}
+use Rattle.cj_machine.specs.Versions.{State, Codes, Progress, Continues, Finishes, Undefined, moved_to, paused, entered_at, offset_told, entered, counted,
+    enters, returns_to, turn_by, turn_in_base, turn_of, version_turn}
 use Rattle.cj_machine.specs.VersionRuns.{first_state, begins_in, version_start, one_turn_more, version_run, report_of, if_used, report_at, version_report}
 use Rattle.cj_machine.specs.CodeMaps.{IsPlainTrail, IsPlainReport}
 
@@ -72,13 +73,15 @@ module _ (P : Program) (codes : Codes) where
   plain_entered None plain f args = tt
   plain_entered (Some look) plain f args = plain_named f args look.offset (look.function.0 == f.0) plain
 
-  plain_counted : (s : State) (now : Stacked) (m printed : List ℤ) (entries : ℕ) → IsPlainState s → IsInBase now.top → AreBaseWaiting now.waiting → IsPlainState (counted s now m printed entries)
+  plain_counted : (s : State) (now : Stacked) (m printed : List ℤ) (entries : ℕ) → IsPlainState s → IsInBase now.top → AreBaseWaiting now.waiting →
+      IsPlainState (counted s now m printed entries)
   unfolding counted
   plain_counted s now m printed entries h top waiting =
       let t = h.turns in
       record { top = top; waiting = waiting; turns = omega arith; fails = h.fails; notes = h.notes }
 
-  plain_enters : (s : State) (fr : Frame) (caller : Paused) (o : Option Active) → IsPlainState s → AreBaseWaiting (caller ∷ s.stack.waiting) → EntersBase o → IsPlainAt (enters s caller o)
+  plain_enters : (s : State) (fr : Frame) (caller : Paused) (o : Option Active) → IsPlainState s → AreBaseWaiting (caller ∷ s.stack.waiting) → EntersBase o →
+      IsPlainAt (enters s caller o)
   unfolding enters
   plain_enters s fr caller None h waiting o = tt
   plain_enters s fr caller (Some top) h waiting o =
@@ -95,13 +98,15 @@ module _ (P : Program) (codes : Codes) where
   plain_by : (look : Option Look) → IsPlainLook look → (s : State) (fr : Frame) (e : Effect) → IsPlainState s → IsPlainAt (turn_by P codes look s (InBase fr) e)
   unfolding turn_by moved_to paused
   plain_by look plain s fr (On next regs m printed) h =
-      plain_counted s (record { top = InBase (record { function = fr.function; label = next; regs = regs }); waiting = s.stack.waiting }) m printed s.entries h tt h.waiting
+      plain_counted s (record { top = InBase (record { function = fr.function; label = next; regs = regs }); waiting = s.stack.waiting }) m printed s.entries h
+          tt h.waiting
   plain_by look plain s fr (Calls dest f args next) h =
       plain_enters s fr (paused (InBase fr) next dest) (entered P codes look f args) h h.waiting (plain_entered look plain f args)
   plain_by look plain s fr (Returns value) h = plain_returns s value s.stack.waiting h h.waiting
   plain_by look plain s fr (Faults fault) h = plain_counted s s.stack s.memory [] s.entries h h.top h.waiting
 
-  plain_base : (look : Option Look) → IsPlainLook look → (s : State) (fr : Frame) (o : Option Instr) → IsPlainState s → IsPlainAt (turn_in_base P codes look s fr o)
+  plain_base : (look : Option Look) → IsPlainLook look → (s : State) (fr : Frame) (o : Option Instr) → IsPlainState s →
+      IsPlainAt (turn_in_base P codes look s fr o)
   unfolding turn_in_base
   plain_base look plain s fr None h = tt
   plain_base look plain s fr (Some i) h = plain_by look plain s fr (effect i fr s.memory) h
@@ -151,5 +156,6 @@ module _ (P : Program) (codes : Codes) where
     unfolding version_report
     plain_report = plain_report_at (version_run P codes trail call call.limit) (plain_run call.limit)
 
-pub plain_report_is : (P : Program) (codes : Codes) (trail : List Look) (call : Begun) (r : Report) → IsPlainTrail trail → version_report P codes trail call ≡ Some r → IsPlainReport r
+pub plain_report_is : (P : Program) (codes : Codes) (trail : List Look) (call : Begun) (r : Report) → IsPlainTrail trail →
+    version_report P codes trail call ≡ Some r → IsPlainReport r
 plain_report_is P codes trail call r plain found = subst (λ o. IfSome o IsPlainReport) found (plain_report P codes trail plain call)

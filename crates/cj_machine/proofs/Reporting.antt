@@ -33,7 +33,8 @@ ended_owed P call r Divide other stands = stands
 ended_owed P call r TurnLimit other stands = absurd (other refl)
 
 -- where the base run ended within a limit that is large enough, what is owed at the end is its end
-owed_whole : (P : Program) (call : Begun) (r : Report) (end : End) → r.turns ≤ 45 * (r.base_turns + 1) → EndOwed P call r end → (n : ℕ) (printed : List ℤ) (by : End) → base_run P call n ≡ Over printed by n → 45 * (n + 1) ≤ call.limit → (r.printed ≡ printed) × (end ≡ by)
+owed_whole : (P : Program) (call : Begun) (r : Report) (end : End) → r.turns ≤ 45 * (r.base_turns + 1) → EndOwed P call r end →
+    (n : ℕ) (printed : List ℤ) (by : End) → base_run P call n ≡ Over printed by n → 45 * (n + 1) ≤ call.limit → (r.printed ≡ printed) × (end ≡ by)
 owed_whole P call r (Returned v) bound owed n printed by over within =
     let same = ends_once P call r.base_turns n r.printed printed (Returned v) by owed over in
     (same.1, same.2)
@@ -110,7 +111,8 @@ module _ (P : Program) (codes : Codes) (call : Begun) (formed : IsWellFormed P) 
   run_holds trail takes (suc n) = next_holds trail (version_run P codes trail call n) (run_holds trail takes n)
 
   -- where a run goes on, its state stands
-  pub run_stands : (trail : List Look) → Takes P.functions call.function (length call.args) → (n : ℕ) (s : State) → version_run P codes trail call n ≡ Continues s → Stands P codes call s
+  pub run_stands : (trail : List Look) → Takes P.functions call.function (length call.args) → (n : ℕ) (s : State) →
+      version_run P codes trail call n ≡ Continues s → Stands P codes call s
   run_stands trail takes n s e = subst (Holds P codes call) e (run_holds trail takes n)
 
   -- the report of a run that a turn ended
@@ -135,7 +137,8 @@ module _ (P : Program) (codes : Codes) (call : Begun) (formed : IsWellFormed P) 
         bound = omega arith;
       }
 
-  used_stands : (trail : List Look) (end : End) (s : State) (b : Bool) → ReportStands P call (report_of trail end s) → IfSome (if b then Some (report_of trail end s) else None) (ReportStands P call)
+  used_stands : (trail : List Look) (end : End) (s : State) (b : Bool) → ReportStands P call (report_of trail end s) →
+      IfSome (if b then Some (report_of trail end s) else None) (ReportStands P call)
   used_stands trail end s true h = h
   used_stands trail end s false h = tt
 
@@ -148,13 +151,15 @@ module _ (P : Program) (codes : Codes) (call : Begun) (formed : IsWellFormed P) 
   at_stands trail Undefined h turns = tt
 
   -- Every report agrees with the base run: its prints and its end after its base turns, its notes, and its bounds.
-  pub report_stands : (trail : List Look) → Takes P.functions call.function (length call.args) → IfSome (version_report P codes trail call) (ReportStands P call)
+  pub report_stands : (trail : List Look) → Takes P.functions call.function (length call.args) →
+      IfSome (version_report P codes trail call) (ReportStands P call)
   unfolding version_report
   report_stands trail takes =
       at_stands trail (version_run P codes trail call call.limit) (run_holds trail takes call.limit) (run_has_turns P codes trail call call.limit)
 
   -- the same, of the report that there is
-  pub report_agrees : (trail : List Look) (r : Report) → Takes P.functions call.function (length call.args) → version_report P codes trail call ≡ Some r → ReportStands P call r × IsWhole P call r
+  pub report_agrees : (trail : List Look) (r : Report) → Takes P.functions call.function (length call.args) → version_report P codes trail call ≡ Some r →
+      ReportStands P call r × IsWhole P call r
   report_agrees trail r takes e =
       let stands : ReportStands P call r = subst (λ o. IfSome o (ReportStands P call)) e (report_stands trail takes) in
       (stands, stands_whole P call r stands)

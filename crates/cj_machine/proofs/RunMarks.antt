@@ -41,7 +41,8 @@ module _ (P : Program) (call : Begun) (codes later : Codes) (g : Grows codes lat
       ∙ ap (λ ms. run_marks P codes trail call n ++ ms) (next_marks_kept P codes later g trail run defined)
 
 -- the marks after the next turn, over the code and the trail that there are after it
-pub marks_next : (P : Program) (call : Begun) (codes later : Codes) (trail more : List Look) (n : ℕ) (s : State) → Grows codes later → version_run P codes trail call n ≡ Continues s → run_marks P later (trail ++ more) call (n + 1) ≡ run_marks P codes trail call n ++ turn_marks P later s
+pub marks_next : (P : Program) (call : Begun) (codes later : Codes) (trail more : List Look) (n : ℕ) (s : State) → Grows codes later →
+    version_run P codes trail call n ≡ Continues s → run_marks P later (trail ++ more) call (n + 1) ≡ run_marks P codes trail call n ++ turn_marks P later s
 unfolding run_marks next_marks
 marks_next P call codes later trail more n s g before =
     let defined : version_run P codes trail call n ≢ Undefined = λ none. continues_defined s (sym before ∙ none) in
@@ -51,7 +52,8 @@ marks_next P call codes later trail more n s g before =
     ∙ ap (λ ms. ms ++ turn_marks P later s) (marks_later P call codes later g trail more n defined))
 
 -- a run that has ended makes no more marks
-ended_more : (P : Program) (codes : Codes) (trail : List Look) (call : Begun) (n d : ℕ) (end : End) (s : State) → version_run P codes trail call n ≡ Finishes end s → run_marks P codes trail call (d + n) ≡ run_marks P codes trail call n
+ended_more : (P : Program) (codes : Codes) (trail : List Look) (call : Begun) (n d : ℕ) (end : End) (s : State) →
+    version_run P codes trail call n ≡ Finishes end s → run_marks P codes trail call (d + n) ≡ run_marks P codes trail call n
 unfolding run_marks next_marks
 ended_more P codes trail call n zero end s e = let same : 0 + n ≡ n = omega arith in rw same refl
 ended_more P codes trail call n (suc d) end s e =
@@ -63,7 +65,8 @@ ended_more P codes trail call n (suc d) end s e =
     ∙ append-nil (run_marks P codes trail call (d + n))
     ∙ ended_more P codes trail call n d end s e)
 
-pub marks_at_end : (P : Program) (codes : Codes) (trail : List Look) (call : Begun) (n m : ℕ) (end : End) (s : State) → version_run P codes trail call n ≡ Finishes end s → n ≤ m → run_marks P codes trail call m ≡ run_marks P codes trail call n
+pub marks_at_end : (P : Program) (codes : Codes) (trail : List Look) (call : Begun) (n m : ℕ) (end : End) (s : State) →
+    version_run P codes trail call n ≡ Finishes end s → n ≤ m → run_marks P codes trail call m ≡ run_marks P codes trail call n
 marks_at_end P codes trail call n m end s e le =
     let same : m - n + n ≡ m = omega arith in
     rw same at (ended_more P codes trail call n (m - n) end s e)
@@ -74,7 +77,8 @@ unfolding run_marks
 marks_at_start P codes trail call = refl
 
 -- more code keeps the marks of a run that has a report
-pub marks_kept_whole : (P : Program) (call : Begun) (codes later : Codes) (trail : List Look) (r : Report) → Grows codes later → version_report P codes trail call ≡ Some r → run_marks P later trail call call.limit ≡ run_marks P codes trail call call.limit
+pub marks_kept_whole : (P : Program) (call : Begun) (codes later : Codes) (trail : List Look) (r : Report) → Grows codes later →
+    version_report P codes trail call ≡ Some r → run_marks P later trail call call.limit ≡ run_marks P codes trail call call.limit
 unfolding version_report report_at
 marks_kept_whole P call codes later trail r g e =
     let defined : version_run P codes trail call call.limit ≢ Undefined = λ none.

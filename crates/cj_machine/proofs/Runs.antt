@@ -1,5 +1,6 @@
 -- The versioned run, turn by turn, over the code and the trail so far.
-use Rattle.std.proofs.Common.{◌≡◌, ◌≢◌, ℕ, zero, suc, ◌+◌, ◌-◌, ◌≤◌, eq-eqb, append-nil, true, false, List, [], ◌∷◌, ◌++◌, length, Option, Some, None, refl, sym, ap, ◌∙◌, subst, add-one, inl, inr, ⊎_elim, arith}
+use Rattle.std.proofs.Common.{◌≡◌, ◌≢◌, ℕ, zero, suc, ◌+◌, ◌-◌, ◌≤◌, eq-eqb, append-nil, true, false, List, [], ◌∷◌, ◌++◌, length, Option, Some, None, refl,
+    sym, ap, ◌∙◌, subst, add-one, inl, inr, ⊎_elim, arith}
 use Rattle.std.specs.Prelude.{ℤ, slice_get, ⊤, if◌then◌else◌}
 use Rattle.cj_ir.specs.Program.{instr_at}
 use Rattle.cj_ir.specs.declared.language.Program.{Program}
@@ -16,7 +17,8 @@ use Rattle.cj_draft.specs.Effects.{VersionEffect, Plain, Guarded, version_effect
 use Rattle.cj_calls.specs.declared.report.Look.{Look}
 use Rattle.cj_calls.specs.declared.report.Report.{Report}
 use Rattle.cj_activations.specs.Activations.{VersionFrame, Active, InBase, InVersion, Paused, BaseWaits, VersionWaits}
-use Rattle.cj_machine.specs.Versions.{State, Codes, Progress, Continues, Finishes, Undefined, place_in, paused, entered, counted, enters, resumed_by, resumed_at, returns_to, turn_by, passed, rebuilt, version_turn_by, turn_in_base, turn_in_version, turn_of, version_turn}
+use Rattle.cj_machine.specs.Versions.{State, Codes, Progress, Continues, Finishes, Undefined, place_in, paused, entered, counted, enters, resumed_by,
+    resumed_at, returns_to, turn_by, passed, rebuilt, version_turn_by, turn_in_base, turn_in_version, turn_of, version_turn}
 use Rattle.cj_machine.specs.VersionRuns.{first_state, begins_in, version_start, one_turn_more, version_run, report_of, if_used, report_at, version_report}
 use Rattle.cj_machine.specs.CodeMaps.{Grows}
 use Rattle.cj_machine.proofs.Growing.{Kept, IsKept, look_kept, entered_kept, turn_kept}
@@ -66,18 +68,21 @@ by_counts P codes look s top (Calls dest f args next) = enters_counts s (paused 
 by_counts P codes look s top (Returns value) = returns_counts codes s value s.stack.waiting
 by_counts P codes look s top (Faults fault) = refl
 
-version_by_counts : (P : Program) (codes : Codes) (look : Option Look) (s : State) (v : VersionFrame) (e : VersionEffect) → CountsOne s.turns (version_turn_by P codes look s v e)
+version_by_counts : (P : Program) (codes : Codes) (look : Option Look) (s : State) (v : VersionFrame) (e : VersionEffect) →
+    CountsOne s.turns (version_turn_by P codes look s v e)
 unfolding version_turn_by passed rebuilt
 version_by_counts P codes look s v (Plain e) = by_counts P codes look s (InVersion v) e
 version_by_counts P codes look s v (Guarded true back target next) = refl
 version_by_counts P codes look s v (Guarded false back target next) = refl
 
-base_counts : (P : Program) (codes : Codes) (look : Option Look) (s : State) (fr : Frame) (o : Option Instr) → CountsOne s.turns (turn_in_base P codes look s fr o)
+base_counts : (P : Program) (codes : Codes) (look : Option Look) (s : State) (fr : Frame) (o : Option Instr) →
+    CountsOne s.turns (turn_in_base P codes look s fr o)
 unfolding turn_in_base
 base_counts P codes look s fr None = tt
 base_counts P codes look s fr (Some i) = by_counts P codes look s (InBase fr) (effect i fr s.memory)
 
-version_counts : (P : Program) (codes : Codes) (look : Option Look) (s : State) (v : VersionFrame) (o : Option Place) → CountsOne s.turns (turn_in_version P codes look s v o)
+version_counts : (P : Program) (codes : Codes) (look : Option Look) (s : State) (v : VersionFrame) (o : Option Place) →
+    CountsOne s.turns (turn_in_version P codes look s v o)
 unfolding turn_in_version
 version_counts P codes look s v None = tt
 version_counts P codes look s v (Some place) = version_by_counts P codes look s v (version_effect place.instr v.regs s.memory)
@@ -108,7 +113,8 @@ one_counted n turns (Continues s) e c = omega arith
 one_counted n turns (Finishes end s) e c = omega arith
 one_counted n turns Undefined e c = tt
 
-pub one_more_counted : (P : Program) (codes : Codes) (trail : List Look) (n : ℕ) (o : Progress) → HasTurns n o → HasTurns (suc n) (one_turn_more P codes trail o)
+pub one_more_counted : (P : Program) (codes : Codes) (trail : List Look) (n : ℕ) (o : Progress) → HasTurns n o →
+    HasTurns (suc n) (one_turn_more P codes trail o)
 unfolding one_turn_more
 one_more_counted P codes trail n (Continues s) h =
     one_counted n s.turns (version_turn P codes (slice_get trail s.entries) s) h (turn_counts P codes (slice_get trail s.entries) s)
@@ -122,7 +128,8 @@ run_has_turns P codes trail call (suc n) =
     one_more_counted P codes trail n (version_run P codes trail call n) (run_has_turns P codes trail call n)
 
 -- a run that goes on after n turns is in a state with n turns
-pub run_turns : (P : Program) (codes : Codes) (trail : List Look) (call : Begun) (n : ℕ) (s : State) → version_run P codes trail call n ≡ Continues s → s.turns ≡ n
+pub run_turns : (P : Program) (codes : Codes) (trail : List Look) (call : Begun) (n : ℕ) (s : State) → version_run P codes trail call n ≡ Continues s →
+    s.turns ≡ n
 run_turns P codes trail call n s e = subst (HasTurns n) e (run_has_turns P codes trail call n)
 
 -- ---- later code and a longer trail
@@ -164,20 +171,24 @@ continues_defined s = λ e. cc
 -- ---- from turn to turn
 
 -- the run after the next turn, over the code and the trail that there are after it
-pub run_next : (P : Program) (call : Begun) (codes later : Codes) (trail more : List Look) (n : ℕ) (s : State) (o : Progress) → Grows codes later → version_run P codes trail call n ≡ Continues s → version_turn P later (slice_get (trail ++ more) s.entries) s ≡ o → version_run P later (trail ++ more) call (n + 1) ≡ o
+pub run_next : (P : Program) (call : Begun) (codes later : Codes) (trail more : List Look) (n : ℕ) (s : State) (o : Progress) → Grows codes later →
+    version_run P codes trail call n ≡ Continues s → version_turn P later (slice_get (trail ++ more) s.entries) s ≡ o →
+    version_run P later (trail ++ more) call (n + 1) ≡ o
 unfolding version_run one_turn_more
 run_next P call codes later trail more n s o g before turn =
     rw add-one (ap (one_turn_more P later (trail ++ more)) (run_later P call codes later g trail more n (Continues s) (continues_defined s) before) ∙ turn)
 
 -- a run that has ended stays so
-finished_more : (P : Program) (codes : Codes) (trail : List Look) (call : Begun) (n d : ℕ) (end : End) (s : State) → version_run P codes trail call n ≡ Finishes end s → version_run P codes trail call (d + n) ≡ Finishes end s
+finished_more : (P : Program) (codes : Codes) (trail : List Look) (call : Begun) (n d : ℕ) (end : End) (s : State) →
+    version_run P codes trail call n ≡ Finishes end s → version_run P codes trail call (d + n) ≡ Finishes end s
 unfolding version_run one_turn_more
 finished_more P codes trail call n zero end s e = let same : 0 + n ≡ n = omega arith in rw same e
 finished_more P codes trail call n (suc d) end s e =
     let same : suc d + n ≡ suc (d + n) = omega arith in
     rw same (ap (one_turn_more P codes trail) (finished_more P codes trail call n d end s e))
 
-pub finished_stays : (P : Program) (codes : Codes) (trail : List Look) (call : Begun) (n m : ℕ) (end : End) (s : State) → version_run P codes trail call n ≡ Finishes end s → n ≤ m → version_run P codes trail call m ≡ Finishes end s
+pub finished_stays : (P : Program) (codes : Codes) (trail : List Look) (call : Begun) (n m : ℕ) (end : End) (s : State) →
+    version_run P codes trail call n ≡ Finishes end s → n ≤ m → version_run P codes trail call m ≡ Finishes end s
 finished_stays P codes trail call n m end s e le =
     let same : m - n + n ≡ m = omega arith in
     rw same at (finished_more P codes trail call n (m - n) end s e)
@@ -190,20 +201,24 @@ used_whole trail end s used =
     ap (λ b. if b then Some (report_of trail end s) else None) (eq-eqb s.entries (length trail) used)
 
 -- where a turn ended the run within the limit
-pub report_at_end : (P : Program) (codes : Codes) (trail : List Look) (call : Begun) (n : ℕ) (end : End) (s : State) → version_run P codes trail call n ≡ Finishes end s → n ≤ call.limit → s.entries ≡ length trail → version_report P codes trail call ≡ Some (report_of trail end s)
+pub report_at_end : (P : Program) (codes : Codes) (trail : List Look) (call : Begun) (n : ℕ) (end : End) (s : State) →
+    version_run P codes trail call n ≡ Finishes end s → n ≤ call.limit → s.entries ≡ length trail →
+    version_report P codes trail call ≡ Some (report_of trail end s)
 unfolding version_report report_at
 report_at_end P codes trail call n end s e le used =
     ap (report_at trail) (finished_stays P codes trail call n call.limit end s e le) ∙ used_whole trail end s used
 
 -- where as many turns were made as the limit says
-pub report_at_limit : (P : Program) (codes : Codes) (trail : List Look) (call : Begun) (n : ℕ) (s : State) → version_run P codes trail call n ≡ Continues s → n ≡ call.limit → s.entries ≡ length trail → version_report P codes trail call ≡ Some (report_of trail TurnLimit s)
+pub report_at_limit : (P : Program) (codes : Codes) (trail : List Look) (call : Begun) (n : ℕ) (s : State) → version_run P codes trail call n ≡ Continues s →
+    n ≡ call.limit → s.entries ≡ length trail → version_report P codes trail call ≡ Some (report_of trail TurnLimit s)
 unfolding version_report report_at
 report_at_limit P codes trail call n s e limit used =
     let at : version_run P codes trail call call.limit ≡ Continues s = subst (λ k. version_run P codes trail call k ≡ Continues s) limit e in
     ap (report_at trail) at ∙ used_whole trail TurnLimit s used
 
 -- more code keeps a report
-pub report_kept : (P : Program) (call : Begun) (codes later : Codes) (trail : List Look) (r : Report) → Grows codes later → version_report P codes trail call ≡ Some r → version_report P later trail call ≡ Some r
+pub report_kept : (P : Program) (call : Begun) (codes later : Codes) (trail : List Look) (r : Report) → Grows codes later →
+    version_report P codes trail call ≡ Some r → version_report P later trail call ≡ Some r
 unfolding version_report report_at
 report_kept P call codes later trail r g e =
     let whole : trail ++ [] ≡ trail = append-nil trail in

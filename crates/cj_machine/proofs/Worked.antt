@@ -32,7 +32,8 @@ use Rattle.cj_draft.specs.BaseBody.{as_version, identity, base_point, base_place
 use Rattle.cj_calls.specs.declared.report.Look.{Look}
 use Rattle.cj_calls.specs.declared.report.Note.{Note}
 use Rattle.cj_calls.specs.declared.report.Report.{Report}
-use Rattle.cj_machine.specs.Versions.{Codes, place_in, moved_to, paused, version_entry, entered_at, offset_told, entered, counted, enters, resumed_by, resumed_at, returns_to, turn_by, passed, keep_note, rebuilt, version_turn_by, turn_in_base, turn_in_version, turn_of, version_turn}
+use Rattle.cj_machine.specs.Versions.{Codes, place_in, moved_to, paused, version_entry, entered_at, offset_told, entered, counted, enters, resumed_by,
+    resumed_at, returns_to, turn_by, passed, keep_note, rebuilt, version_turn_by, turn_in_base, turn_in_version, turn_of, version_turn}
 use Rattle.cj_machine.specs.VersionRuns.{first_state, begins_in, version_start, one_turn_more, version_run, report_of, if_used, report_at, version_report}
 
 -- ---- programs and codes, by their numbers
@@ -81,7 +82,8 @@ noted o = option_map (λ x. x.notes) o
 -- ---- an immediate Assume: r = n * 2, print r, return r, guessed at n = 5
 
 doubles : Program
-doubles = record { functions = function 1 2 (base.Op (reg 1) (Mul (r 0) (operand.Const (pos 2))) (label 1) ∷ base.Print (r 1) (label 2) ∷ base.Return (r 1) ∷ []) ∷ [] }
+doubles = record { functions = function 1 2 (base.Op (reg 1) (Mul (r 0) (operand.Const (pos 2))) (label 1) ∷ base.Print (r 1) (label 2) ∷ base.Return (r 1)
+    ∷ []) ∷ [] }
 
 at_doubles : ℕ → Point
 at_doubles l = record { frames = frame 0 l 0 (r 0 ∷ r 1 ∷ []) ∷ [] }
@@ -98,18 +100,27 @@ guarded_double = record {
       ∷ [];
 }
 
-guard_holds_at_5 : told (version_report doubles (only guarded_double) (look 0 2 ∷ []) (call_of (pos 5 ∷ []))) ≡ Some (wrap (pos 10) ∷ [], Returned (wrap (pos 10)), 4, 3, 0)
-unfolding version_report report_at if_used report_of version_run one_turn_more version_start begins_in first_state version_turn turn_of turn_in_version turn_in_base version_turn_by rebuilt keep_note passed turn_by returns_to resumed_at resumed_by enters counted entered offset_told entered_at version_entry paused moved_to place_in guard_holds guards_hold moved version_effect frame_regs top_of waiting_of stack_of frames_of with_value branch op_effect effect end_of entry_regs entry_frame waits resumed fun label reg r lines function place frame only call_of look told doubles at_doubles guarded_double
+guard_holds_at_5 : told (version_report doubles (only guarded_double) (look 0 2 ∷ []) (call_of (pos 5 ∷ []))) ≡ Some
+    (wrap (pos 10) ∷ [], Returned (wrap (pos 10)), 4, 3, 0)
+unfolding version_report report_at if_used report_of version_run one_turn_more version_start begins_in first_state version_turn turn_of turn_in_version
+    turn_in_base version_turn_by rebuilt keep_note passed turn_by returns_to resumed_at resumed_by enters counted entered offset_told entered_at version_entry
+    paused moved_to place_in guard_holds guards_hold moved version_effect frame_regs top_of waiting_of stack_of frames_of with_value branch op_effect effect
+    end_of entry_regs entry_frame waits resumed fun label reg r lines function place frame only call_of look told doubles at_doubles guarded_double
 guard_holds_at_5 = refl
 
-guard_fails_at_6 : told (version_report doubles (only guarded_double) (look 0 2 ∷ []) (call_of (pos 6 ∷ []))) ≡ Some (wrap (pos 12) ∷ [], Returned (wrap (pos 12)), 4, 3, 1)
-unfolding version_report report_at if_used report_of version_run one_turn_more version_start begins_in first_state version_turn turn_of turn_in_version turn_in_base version_turn_by rebuilt keep_note passed turn_by returns_to resumed_at resumed_by enters counted entered offset_told entered_at version_entry paused moved_to place_in guard_holds guards_hold moved version_effect frame_regs top_of waiting_of stack_of frames_of with_value branch op_effect effect end_of entry_regs entry_frame waits resumed fun label reg r lines function place frame only call_of look told doubles at_doubles guarded_double
+guard_fails_at_6 : told (version_report doubles (only guarded_double) (look 0 2 ∷ []) (call_of (pos 6 ∷ []))) ≡ Some
+    (wrap (pos 12) ∷ [], Returned (wrap (pos 12)), 4, 3, 1)
+unfolding version_report report_at if_used report_of version_run one_turn_more version_start begins_in first_state version_turn turn_of turn_in_version
+    turn_in_base version_turn_by rebuilt keep_note passed turn_by returns_to resumed_at resumed_by enters counted entered offset_told entered_at version_entry
+    paused moved_to place_in guard_holds guards_hold moved version_effect frame_regs top_of waiting_of stack_of frames_of with_value branch op_effect effect
+    end_of entry_regs entry_frame waits resumed fun label reg r lines function place frame only call_of look told doubles at_doubles guarded_double
 guard_fails_at_6 = refl
 
 -- ---- a delayed Assume takes its turn back: cond n, print 1 or print 2, return n
 
 branches : Program
-branches = record { functions = function 1 1 (base.Cond (r 0) (label 1) (label 2) ∷ base.Print (operand.Const (pos 1)) (label 3) ∷ base.Print (operand.Const (pos 2)) (label 3) ∷ base.Return (r 0) ∷ []) ∷ [] }
+branches = record { functions = function 1 1 (base.Cond (r 0) (label 1) (label 2) ∷ base.Print (operand.Const (pos 1)) (label 3)
+    ∷ base.Print (operand.Const (pos 2)) (label 3) ∷ base.Return (r 0) ∷ []) ∷ [] }
 
 at_branches : ℕ → Point
 at_branches l = record { frames = frame 0 l 0 (r 0 ∷ []) ∷ [] }
@@ -127,8 +138,12 @@ cold_branch = record {
       ∷ [];
 }
 
-delayed_assume_takes_its_turn_back : told (version_report branches (only cold_branch) (look 0 2 ∷ []) (call_of (pos 0 ∷ []))) ≡ Some (pos 2 ∷ [], Returned (pos 0), 5, 3, 1)
-unfolding version_report report_at if_used report_of version_run one_turn_more version_start begins_in first_state version_turn turn_of turn_in_version turn_in_base version_turn_by rebuilt keep_note passed turn_by returns_to resumed_at resumed_by enters counted entered offset_told entered_at version_entry paused moved_to place_in guard_holds guards_hold moved version_effect frame_regs top_of waiting_of stack_of frames_of with_value branch op_effect effect end_of entry_regs entry_frame waits resumed fun label reg r lines function place frame only call_of look told branches at_branches cold_branch
+delayed_assume_takes_its_turn_back : told (version_report branches (only cold_branch) (look 0 2 ∷ []) (call_of (pos 0 ∷ []))) ≡ Some
+    (pos 2 ∷ [], Returned (pos 0), 5, 3, 1)
+unfolding version_report report_at if_used report_of version_run one_turn_more version_start begins_in first_state version_turn turn_of turn_in_version
+    turn_in_base version_turn_by rebuilt keep_note passed turn_by returns_to resumed_at resumed_by enters counted entered offset_told entered_at version_entry
+    paused moved_to place_in guard_holds guards_hold moved version_effect frame_regs top_of waiting_of stack_of frames_of with_value branch op_effect effect
+    end_of entry_regs entry_frame waits resumed fun label reg r lines function place frame only call_of look told branches at_branches cold_branch
 delayed_assume_takes_its_turn_back = refl
 
 -- ---- two inlined frames: main calls mid, which calls low, which prints; a guard fails in low
@@ -149,15 +164,21 @@ two_inlined_frames =
       function = fun 0;
       regs = 5;
       entry = label 0;
-      places = place (record { frames = frame 0 0 0 (r 0 ∷ r 1 ∷ []) ∷ [] }) (Move (record { dest = reg 2; value = r 0 } ∷ record { dest = reg 3; value = operand.Const (pos 0) } ∷ []) (label 1))
+      places = place (record { frames = frame 0 0 0 (r 0 ∷ r 1 ∷ []) ∷ [] })
+          (Move (record { dest = reg 2; value = r 0 } ∷ record { dest = reg 3; value = operand.Const (pos 0) } ∷ []) (label 1))
           ∷ place (record { frames = frame 1 0 0 (r 2 ∷ r 3 ∷ []) ∷ main ∷ [] }) (Move (record { dest = reg 4; value = r 2 } ∷ []) (label 2))
           ∷ place (record { frames = frame 2 0 0 (r 4 ∷ []) ∷ mid ∷ main ∷ [] }) (Print (r 4) (label 3))
-          ∷ place (record { frames = frame 2 1 0 (r 4 ∷ []) ∷ mid ∷ main ∷ [] }) (Assume (Never ∷ []) 0 (record { frames = frame 2 1 0 (r 4 ∷ []) ∷ mid ∷ main ∷ [] }) (label 3))
+          ∷ place (record { frames = frame 2 1 0 (r 4 ∷ []) ∷ mid ∷ main ∷ [] })
+              (Assume (Never ∷ []) 0 (record { frames = frame 2 1 0 (r 4 ∷ []) ∷ mid ∷ main ∷ [] }) (label 3))
           ∷ [];
     }
 
-two_frames_are_rebuilt : told (version_report nested (only two_inlined_frames) (look 0 2 ∷ []) (call_of (pos 5 ∷ []))) ≡ Some (pos 5 ∷ [], Returned (wrap (pos 6)), 8, 7, 1)
-unfolding version_report report_at if_used report_of version_run one_turn_more version_start begins_in first_state version_turn turn_of turn_in_version turn_in_base version_turn_by rebuilt keep_note passed turn_by returns_to resumed_at resumed_by enters counted entered offset_told entered_at version_entry paused moved_to place_in guard_holds guards_hold moved version_effect frame_regs top_of waiting_of stack_of frames_of with_value branch op_effect effect end_of entry_regs entry_frame waits resumed fun label reg r lines function place frame only call_of look told nested two_inlined_frames
+two_frames_are_rebuilt : told (version_report nested (only two_inlined_frames) (look 0 2 ∷ []) (call_of (pos 5 ∷ []))) ≡ Some
+    (pos 5 ∷ [], Returned (wrap (pos 6)), 8, 7, 1)
+unfolding version_report report_at if_used report_of version_run one_turn_more version_start begins_in first_state version_turn turn_of turn_in_version
+    turn_in_base version_turn_by rebuilt keep_note passed turn_by returns_to resumed_at resumed_by enters counted entered offset_told entered_at version_entry
+    paused moved_to place_in guard_holds guards_hold moved version_effect frame_regs top_of waiting_of stack_of frames_of with_value branch op_effect effect
+    end_of entry_regs entry_frame waits resumed fun label reg r lines function place frame only call_of look told nested two_inlined_frames
 two_frames_are_rebuilt = refl
 
 the_rebuilt_frames : noted (version_report nested (only two_inlined_frames) (look 0 2 ∷ []) (call_of (pos 5 ∷ []))) ≡ Some (record {
@@ -167,7 +188,10 @@ the_rebuilt_frames : noted (version_report nested (only two_inlined_frames) (loo
       ∷ record { function = record { 0 = 0 }; label = record { 0 = 1 }; regs = pos 5 ∷ pos 0 ∷ []; dest = record { 0 = 1 } }
       ∷ [];
 } ∷ [])
-unfolding version_report report_at if_used report_of version_run one_turn_more version_start begins_in first_state version_turn turn_of turn_in_version turn_in_base version_turn_by rebuilt keep_note passed turn_by returns_to resumed_at resumed_by enters counted entered offset_told entered_at version_entry paused moved_to place_in guard_holds guards_hold moved version_effect frame_regs top_of waiting_of stack_of frames_of with_value branch op_effect effect end_of entry_regs entry_frame waits resumed fun label reg r lines function place frame only call_of look noted nested two_inlined_frames
+unfolding version_report report_at if_used report_of version_run one_turn_more version_start begins_in first_state version_turn turn_of turn_in_version
+    turn_in_base version_turn_by rebuilt keep_note passed turn_by returns_to resumed_at resumed_by enters counted entered offset_told entered_at version_entry
+    paused moved_to place_in guard_holds guards_hold moved version_effect frame_regs top_of waiting_of stack_of frames_of with_value branch op_effect effect
+    end_of entry_regs entry_frame waits resumed fun label reg r lines function place frame only call_of look noted nested two_inlined_frames
 the_rebuilt_frames = refl
 
 -- ---- versions that call versions: each body is its base body's copy
@@ -175,11 +199,20 @@ the_rebuilt_frames = refl
 bodies : Codes
 bodies f offset = Some (base_code nested f)
 
-versions_call_versions : told (version_report nested bodies (look 0 2 ∷ look 1 3 ∷ look 2 0 ∷ []) (call_of (pos 5 ∷ []))) ≡ Some (pos 5 ∷ [], Returned (wrap (pos 6)), 7, 7, 0)
-unfolding version_report report_at if_used report_of version_run one_turn_more version_start begins_in first_state version_turn turn_of turn_in_version turn_in_base version_turn_by rebuilt keep_note passed turn_by returns_to resumed_at resumed_by enters counted entered offset_told entered_at version_entry paused moved_to place_in guard_holds guards_hold moved version_effect frame_regs top_of waiting_of stack_of frames_of with_value branch op_effect effect end_of entry_regs entry_frame waits resumed as_version identity base_point base_place base_places base_code fun label reg r lines function place frame call_of look told nested bodies
+versions_call_versions : told (version_report nested bodies (look 0 2 ∷ look 1 3 ∷ look 2 0 ∷ []) (call_of (pos 5 ∷ []))) ≡ Some
+    (pos 5 ∷ [], Returned (wrap (pos 6)), 7, 7, 0)
+unfolding version_report report_at if_used report_of version_run one_turn_more version_start begins_in first_state version_turn turn_of turn_in_version
+    turn_in_base version_turn_by rebuilt keep_note passed turn_by returns_to resumed_at resumed_by enters counted entered offset_told entered_at version_entry
+    paused moved_to place_in guard_holds guards_hold moved version_effect frame_regs top_of waiting_of stack_of frames_of with_value branch op_effect effect
+    end_of entry_regs entry_frame waits resumed as_version identity base_point base_place base_places base_code fun label reg r lines function place frame
+    call_of look told nested bodies
 versions_call_versions = refl
 
 -- over a trail that is too long there is no report
 unused_looks : told (version_report nested bodies (look 0 2 ∷ look 1 3 ∷ look 2 0 ∷ look 2 0 ∷ []) (call_of (pos 5 ∷ []))) ≡ None
-unfolding version_report report_at if_used report_of version_run one_turn_more version_start begins_in first_state version_turn turn_of turn_in_version turn_in_base version_turn_by rebuilt keep_note passed turn_by returns_to resumed_at resumed_by enters counted entered offset_told entered_at version_entry paused moved_to place_in guard_holds guards_hold moved version_effect frame_regs top_of waiting_of stack_of frames_of with_value branch op_effect effect end_of entry_regs entry_frame waits resumed as_version identity base_point base_place base_places base_code fun label reg r lines function place frame call_of look told nested bodies
+unfolding version_report report_at if_used report_of version_run one_turn_more version_start begins_in first_state version_turn turn_of turn_in_version
+    turn_in_base version_turn_by rebuilt keep_note passed turn_by returns_to resumed_at resumed_by enters counted entered offset_told entered_at version_entry
+    paused moved_to place_in guard_holds guards_hold moved version_effect frame_regs top_of waiting_of stack_of frames_of with_value branch op_effect effect
+    end_of entry_regs entry_frame waits resumed as_version identity base_point base_place base_places base_code fun label reg r lines function place frame
+    call_of look told nested bodies
 unused_looks = refl

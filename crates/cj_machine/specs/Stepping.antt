@@ -72,7 +72,8 @@ VersionNeeds instr args step.Fails = ⊤
 
 -- the step of a base frame's instruction
 pub record IsBaseStep (instr : Instr) (args : List ℤ) (old new : State) (step : Step) : Type 0 where
-  pub made : (P : Program) (fr : Frame) → old.stack.top ≡ InBase fr → IsStep P (λ codes look. turn_by P codes look old (InBase fr) (effect instr fr old.memory)) args old new step
+  pub made : (P : Program) (fr : Frame) → old.stack.top ≡ InBase fr →
+      IsStep P (λ codes look. turn_by P codes look old (InBase fr) (effect instr fr old.memory)) args old new step
   pub marks : (fr : Frame) → old.stack.top ≡ InBase fr → base_marks fr old.memory (Some instr) ≡ marks_told step fr.function fr.label args
   pub needs : BaseNeeds instr args step
 
@@ -83,8 +84,10 @@ StaysIn v new step = ⊤
 
 -- the step of the instruction of a version's place
 pub record IsVersionStep (instr : VInstr) (args : List ℤ) (old new : State) (step : Step) : Type 0 where
-  pub made : (P : Program) (v : VersionFrame) → old.stack.top ≡ InVersion v → IsStep P (λ codes look. version_turn_by P codes look old v (version_effect instr v.regs old.memory)) args old new step
-  pub marks : (v : VersionFrame) → old.stack.top ≡ InVersion v → version_marks v (version_effect instr v.regs old.memory) ≡ marks_told step v.function v.label args
+  pub made : (P : Program) (v : VersionFrame) → old.stack.top ≡ InVersion v →
+      IsStep P (λ codes look. version_turn_by P codes look old v (version_effect instr v.regs old.memory)) args old new step
+  pub marks : (v : VersionFrame) → old.stack.top ≡ InVersion v →
+      version_marks v (version_effect instr v.regs old.memory) ≡ marks_told step v.function v.label args
   pub needs : VersionNeeds instr args step
   pub stays : (v : VersionFrame) → old.stack.top ≡ InVersion v → StaysIn v new step
 

@@ -49,8 +49,7 @@ fn push_instr(
         } => {
             push_piece(text, Gap::Blank, b"cond")?;
             push_operand(text, Gap::Blank, function, test)?;
-            push_target(text, function, *then_to)?;
-            push_other_target(text, function, *else_to)
+            push_targets(text, function, *then_to, *else_to)
         }
         Instr::Call {
             dest,
@@ -85,10 +84,7 @@ fn push_instr(
             value,
             next,
         } => {
-            push_piece(text, Gap::Blank, b"store")?;
-            push_cell(text, function, address)?;
-            push_piece(text, Gap::Blank, b"=")?;
-            push_operand(text, Gap::Blank, function, value)?;
+            push_stored(text, function, address, value)?;
             push_target(text, function, *next)
         }
         Instr::Fail { text: words } => push_fail(text, words.bytes()),
@@ -103,12 +99,18 @@ fn push_target(text: &mut Vec<u8>, function: &Function, next: Label) -> Result<(
     push_label(text, Gap::Blank, function, next)
 }
 
-// `, M`
-fn push_other_target(text: &mut Vec<u8>, function: &Function, next: Label) -> Result<(), NoMemory>
-    ensures { OnOk result (text.new.items ≡ text.old.items ++ pieces_text (after_comma (label_text function.now next))) }
+// `-> L, M`
+fn push_targets(
+    text: &mut Vec<u8>,
+    function: &Function,
+    then_to: Label,
+    else_to: Label,
+) -> Result<(), NoMemory>
+    ensures { OnOk result (text.new.items ≡ text.old.items ++ pieces_text (target_pieces function.now then_to ++ after_comma (label_text function.now else_to))) }
 {
+    push_target(text, function, then_to)?;
     push_piece(text, Gap::Glued, b",")?;
-    push_label(text, Gap::Blank, function, next)
+    push_label(text, Gap::Blank, function, else_to)
 }
 
 // `word r =`
@@ -132,6 +134,21 @@ fn push_cell(text: &mut Vec<u8>, function: &Function, address: &Operand) -> Resu
     push_piece(text, Gap::Blank, b"[")?;
     push_operand(text, Gap::Glued, function, address)?;
     push_piece(text, Gap::Glued, b"]")
+}
+
+// `store [a] = v`
+fn push_stored(
+    text: &mut Vec<u8>,
+    function: &Function,
+    address: &Operand,
+    value: &Operand,
+) -> Result<(), NoMemory>
+    ensures { OnOk result (text.new.items ≡ text.old.items ++ pieces_text (blank (codes "store") ∷ cell_pieces function.now address.now ++ blank (codes "=") ∷ blank (operand_text function.now value.now) ∷ [])) }
+{
+    push_piece(text, Gap::Blank, b"store")?;
+    push_cell(text, function, address)?;
+    push_piece(text, Gap::Blank, b"=")?;
+    push_operand(text, Gap::Blank, function, value)
 }
 
 // `f(a, b)`

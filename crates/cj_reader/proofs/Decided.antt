@@ -16,15 +16,18 @@ abbrev pub decides : {X : Type 0} → List Refused → X → Result X Refused
 decides [] x = Ok x
 decides (e ∷ es) x = Err e
 
-pub decided_then : {X Y : Type 0} (es fs : List Refused) (x : X) (y : Y) (us : List Lexeme) (f : X → Read Y) → f x ≡ reads fs y us → (decides es x >>= f) ≡ reads (es ++ fs) y us
+pub decided_then : {X Y : Type 0} (es fs : List Refused) (x : X) (y : Y) (us : List Lexeme) (f : X → Read Y) → f x ≡ reads fs y us →
+    (decides es x >>= f) ≡ reads (es ++ fs) y us
 decided_then [] fs x y us f h = h
 decided_then (e ∷ es) fs x y us f h = refl
 
-pub decided_last : {X Y : Type 0} (es : List Refused) (x : X) (y : Y) (us : List Lexeme) (f : X → Read Y) → f x ≡ Ok (y, us) → (decides es x >>= f) ≡ reads es y us
+pub decided_last : {X Y : Type 0} (es : List Refused) (x : X) (y : Y) (us : List Lexeme) (f : X → Read Y) → f x ≡ Ok (y, us) →
+    (decides es x >>= f) ≡ reads es y us
 decided_last [] x y us f h = h
 decided_last (e ∷ es) x y us f h = refl
 
-pub refused_decides : {X : Type 0} (test : Bool) (t : Lexeme) (kind : Kind) (es : List Refused) (x : X) (r : Result X Refused) → r ≡ decides es x → (refuse_if test t kind >>= λ u. r) ≡ decides (offends_if test t kind ++ es) x
+pub refused_decides : {X : Type 0} (test : Bool) (t : Lexeme) (kind : Kind) (es : List Refused) (x : X) (r : Result X Refused) → r ≡ decides es x →
+    (refuse_if test t kind >>= λ u. r) ≡ decides (offends_if test t kind ++ es) x
 refused_decides true t kind es x r h = refl
 refused_decides false t kind es x r h = h
 
@@ -32,7 +35,8 @@ pub refused_last : {X : Type 0} (test : Bool) (t : Lexeme) (kind : Kind) (x : X)
 refused_last true t kind x = refl
 refused_last false t kind x = refl
 
-pub found_decides : {X Y : Type 0} (o : Option X) (other : X) (t : Lexeme) (kind : Kind) (f : X → Y) → (found o (offence t kind) >>= λ x. Ok (f x)) ≡ decides (missing o t kind) (f (unwrap_or o other))
+pub found_decides : {X Y : Type 0} (o : Option X) (other : X) (t : Lexeme) (kind : Kind) (f : X → Y) →
+    (found o (offence t kind) >>= λ x. Ok (f x)) ≡ decides (missing o t kind) (f (unwrap_or o other))
 found_decides None other t kind f = refl
 found_decides (Some x) other t kind f = refl
 

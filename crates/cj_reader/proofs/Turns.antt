@@ -11,10 +11,13 @@ unfolding count_at front
 count_ends [] h = refl
 count_ends (t ∷ ts) h = rw h refl
 
-pub count_goes : (n m : ℕ) (ts : List Lexeme) → ends_list (front ts) ≡ false → cond (is_terminal Comma (front ts)) n (n + 1) ≡ m → n + count_at ts ≡ m + count_at (behind ts)
+pub count_goes : (n m : ℕ) (ts : List Lexeme) → ends_list (front ts) ≡ false → cond (is_terminal Comma (front ts)) n (n + 1) ≡ m →
+    n + count_at ts ≡ m + count_at (behind ts)
 unfolding count_at front behind
 count_goes n m [] h e = cc
-count_goes n m (t ∷ ts) h e = rw h (elim (is_terminal Comma t) as (λ b. cond b n (n + 1) ≡ m → n + cond b (count_at ts) (suc (count_at ts)) ≡ m + count_at ts) [ true ↦ (λ e. omega arith) | false ↦ (λ e. omega arith) ] e)
+count_goes n m (t ∷ ts) h e = rw h
+    (elim (is_terminal Comma t) as (λ b. cond b n (n + 1) ≡ m →
+    n + cond b (count_at ts) (suc (count_at ts)) ≡ m + count_at ts) [ true ↦ (λ e. omega arith) | false ↦ (λ e. omega arith) ] e)
 
 pub list_shorter : (ts : List Lexeme) → ends_list (front ts) ≡ false → length (behind ts) < length ts
 unfolding front behind
@@ -54,6 +57,9 @@ unfolding front behind
 functions_shorter [] h = cc
 functions_shorter (t ∷ ts) h = omega arith
 
-pub heads_turn : (done new : List Head) (all ts us : List Lexeme) → heads_at all ≡ done ++ heads_at ts → ends_functions (front ts) (behind ts) ≡ false → new ≡ headed (front ts) (behind ts) → us ≡ behind ts → heads_at all ≡ (done ++ new) ++ heads_at us
+pub heads_turn : (done new : List Head) (all ts us : List Lexeme) → heads_at all ≡ done ++ heads_at ts → ends_functions (front ts) (behind ts) ≡ false →
+    new ≡ headed (front ts) (behind ts) → us ≡ behind ts → heads_at all ≡ (done ++ new) ++ heads_at us
 heads_turn done new all ts us i h n b =
-    i ∙ (ap (λ hs. done ++ hs) (heads_go ts h) ∙ (sym (append_assoc done (headed (front ts) (behind ts)) (heads_at (behind ts))) ∙ (ap (λ hs. (done ++ hs) ++ heads_at (behind ts)) (sym n) ∙ ap (λ vs. (done ++ new) ++ heads_at vs) (sym b))))
+    i ∙ (ap (λ hs. done ++ hs) (heads_go ts h)
+        ∙ (sym (append_assoc done (headed (front ts) (behind ts)) (heads_at (behind ts)))
+        ∙ (ap (λ hs. (done ++ hs) ++ heads_at (behind ts)) (sym n) ∙ ap (λ vs. (done ++ new) ++ heads_at vs) (sym b))))

@@ -64,7 +64,8 @@ registers_of t = texts_of (param_tokens t) ++ texts_of (other_tokens t)
 -- the function's NAME, behind the names of the functions before it, its parameters and its registers: not too many of each
 abbrev pub head_offences : List (List ℕ) → Tree head → List Refused
 head_offences earlier t =
-    name_offences MAX_FUNCTIONS earlier (function_name t) ++ (names_offences MAX_PARAMS [] (param_tokens t) ++ names_offences MAX_REGS (texts_of (param_tokens t)) (other_tokens t))
+    name_offences MAX_FUNCTIONS earlier (function_name t)
+        ++ (names_offences MAX_PARAMS [] (param_tokens t) ++ names_offences MAX_REGS (texts_of (param_tokens t)) (other_tokens t))
 
 -- ---- lines
 
@@ -75,7 +76,8 @@ line_number (number, (colon, i)) = number.token
 -- a line's NUM, behind the numbers of the lines before it
 abbrev pub number_offences : List ℤ → Lexeme → List Refused
 number_offences earlier t =
-    offends_if (nat_le MAX_LABELS (length earlier)) t TooMany ++ (offends_if (not (is_line_number t.number)) t Range ++ offends_if (list_any (λ other. int_eq other t.number) earlier) t LabelTwice)
+    offends_if (nat_le MAX_LABELS (length earlier)) t TooMany
+        ++ (offends_if (not (is_line_number t.number)) t Range ++ offends_if (list_any (λ other. int_eq other t.number) earlier) t LabelTwice)
 
 unfoldable pub line_offences : Scope → List ℤ → Tree line → List Refused
 unfolding line

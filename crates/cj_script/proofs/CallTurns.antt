@@ -12,7 +12,8 @@ use Rattle.cj_ir.specs.declared.script.ScriptCall.{ScriptCall}
 use Rattle.cj_grammar.specs.Reading.{offence}
 use Rattle.cj_script.specs.Meaning.{out_of_range, limit_offences, callee_offences, id_named}
 use Rattle.cj_script.specs.Reading.{numbers_at, behind_numbers, cells_at, limit_at, begun_at, is_call, limits, call_at, calls_at}
-use Rattle.cj_script.proofs.Turns.{behind_within, Within, ok_within, err_within, judged_within, then_within, cond_within, behind_shorter, all_stops, all_fails, all_goes}
+use Rattle.cj_script.proofs.Turns.{behind_within, Within, ok_within, err_within, judged_within, then_within, cond_within, behind_shorter, all_stops, all_fails,
+    all_goes}
 
 behind_numbers_within : (ts : List Lexeme) → length (behind_numbers ts) ≤ length ts
 unfolding behind_numbers
@@ -52,7 +53,8 @@ begun_within functions spent ts =
     (λ cells fewer. then_within (limit_at spent cells.1) (length cells.1) (length ts) _ (limit_within spent cells.1)
     (λ limit fewest. ok_within _ (length ts) limit.1 (omega arith))))
 
-pub call_shorter : (functions : List Function) (earlier : List ScriptCall) (ts : List Lexeme) (x : ScriptCall × List Lexeme) → is_call ts ≡ true → call_at functions earlier ts ≡ Ok x → length x.1 < length ts
+pub call_shorter : (functions : List Function) (earlier : List ScriptCall) (ts : List Lexeme) (x : ScriptCall × List Lexeme) → is_call ts ≡ true →
+    call_at functions earlier ts ≡ Ok x → length x.1 < length ts
 unfolding call_at front
 call_shorter functions earlier ts x b h =
     let s : length (behind ts) < length ts = behind_shorter terminal.Call ts refl b in
@@ -62,16 +64,19 @@ call_shorter functions earlier ts x b h =
     let l : length x.1 ≤ length (behind ts) = w.within x h in
     omega arith
 
-pub calls_turn : (functions : List Function) (earlier : List ScriptCall) (ts us : List Lexeme) (call : ScriptCall) → is_call ts ≡ true → call_at functions earlier ts ≡ Ok (call, us) → calls_at functions earlier ts ≡ calls_at functions (earlier ++ call ∷ []) us
+pub calls_turn : (functions : List Function) (earlier : List ScriptCall) (ts us : List Lexeme) (call : ScriptCall) → is_call ts ≡ true →
+    call_at functions earlier ts ≡ Ok (call, us) → calls_at functions earlier ts ≡ calls_at functions (earlier ++ call ∷ []) us
 unfolding calls_at front
 calls_turn functions earlier ts us call b h =
     all_goes is_call (call_at functions) refl (call_shorter functions) earlier ts (call, us) b h
 
-pub calls_fail : (functions : List Function) (earlier : List ScriptCall) (ts : List Lexeme) (e : Refused) → is_call ts ≡ true → call_at functions earlier ts ≡ Err e → calls_at functions earlier ts ≡ Err e
+pub calls_fail : (functions : List Function) (earlier : List ScriptCall) (ts : List Lexeme) (e : Refused) → is_call ts ≡ true →
+    call_at functions earlier ts ≡ Err e → calls_at functions earlier ts ≡ Err e
 unfolding calls_at front
 calls_fail functions earlier ts e b h = all_fails is_call (call_at functions) refl (call_shorter functions) earlier ts e b h
 
-pub calls_stop : (functions : List Function) (earlier : List ScriptCall) (ts : List Lexeme) → is_call ts ≡ false → calls_at functions earlier ts ≡ Ok (earlier, ts)
+pub calls_stop : (functions : List Function) (earlier : List ScriptCall) (ts : List Lexeme) → is_call ts ≡ false →
+    calls_at functions earlier ts ≡ Ok (earlier, ts)
 unfolding calls_at front
 calls_stop functions earlier ts b = all_stops is_call (call_at functions) refl (call_shorter functions) earlier ts b
 

@@ -13,7 +13,8 @@ use Rattle.cj_tokens.specs.Lexemes.{Lexeme}
 use Rattle.cj_tokens.specs.declared.refusal.Kind.TheVariants.{NoFunction, Arguments, NoLabel, NotCond}
 use Rattle.cj_tokens.specs.declared.refusal.Refused.{Refused}
 use Rattle.cj_grammar.specs.Reading.{offence, highest}
-use Rattle.cj_script.specs.Meaning.{is_named, function_named, id_named, long_name, function_offences, callee_offences, other_count, is_numbered, is_cond, label_offences, label_of}
+use Rattle.cj_script.specs.Meaning.{is_named, function_named, id_named, long_name, function_offences, callee_offences, other_count, is_numbered, is_cond,
+    label_offences, label_of}
 use Rattle.cj_script.specs.Reading.{judged}
 use Rattle.cj_ir.proofs.ListReads.{at_index}
 
@@ -44,7 +45,9 @@ short : (t : Lexeme) → length t.text ≤ 32 → long_name t ≡ []
 short t h = let e : nat_lt 32 (length t.text) ≡ false = grind (arith, nat_tests) in rw e refl
 
 -- The NAME of a function that is there has no offence.
-pub named_judged : (functions : List Function) (name : Lexeme) (k : ℕ) → length name.text ≤ 32 → k < length functions → position (is_named name) functions ≡ Some k → judged (function_offences functions name) (id_named functions name) ≡ Ok (let id : FunId = record { 0 = k } in id)
+pub named_judged : (functions : List Function) (name : Lexeme) (k : ℕ) → length name.text ≤ 32 → k < length functions →
+    position (is_named name) functions ≡ Some k →
+    judged (function_offences functions name) (id_named functions name) ≡ Ok (let id : FunId = record { 0 = k } in id)
 unfolding function_offences
 named_judged functions name k h w p =
     let s : (f : Function) × (slice_get functions k ≡ Some f) = at_index functions k w in
@@ -53,53 +56,67 @@ named_judged functions name k h w p =
     rw (l, e, p) refl
 
 -- The NAME of no function.
-pub unnamed_judged : (functions : List Function) (name : Lexeme) → length name.text ≤ 32 → position (is_named name) functions ≡ None → judged (function_offences functions name) (id_named functions name) ≡ Err (offence name NoFunction)
+pub unnamed_judged : (functions : List Function) (name : Lexeme) → length name.text ≤ 32 → position (is_named name) functions ≡ None →
+    judged (function_offences functions name) (id_named functions name) ≡ Err (offence name NoFunction)
 unfolding function_offences
 unnamed_judged functions name h p =
     let e : find (is_named name) functions ≡ None = find_none (is_named name) functions p in
     let l : long_name name ≡ [] = short name h in
     rw (l, e) refl
 
-pub placed_named : (functions : List Function) (name : Lexeme) (k : ℕ) → position (is_named name) functions ≡ Some k → slice_get functions k ≡ function_named functions name
+pub placed_named : (functions : List Function) (name : Lexeme) (k : ℕ) → position (is_named name) functions ≡ Some k →
+    slice_get functions k ≡ function_named functions name
 placed_named functions name k p = sym (find_placed (is_named name) functions k p)
 
 -- The NAME of a function with as many parameters as there are arguments.
-pub callee_judged : (functions : List Function) (count : ℕ) (name : Lexeme) (id : FunId) (f : Function) → judged (function_offences functions name) (id_named functions name) ≡ Ok id → function_named functions name ≡ Some f → f.params ≡ count → judged (callee_offences functions count name) (id_named functions name) ≡ Ok id
+pub callee_judged : (functions : List Function) (count : ℕ) (name : Lexeme) (id : FunId) (f : Function) →
+    judged (function_offences functions name) (id_named functions name) ≡ Ok id → function_named functions name ≡ Some f → f.params ≡ count →
+    judged (callee_offences functions count name) (id_named functions name) ≡ Ok id
 unfolding callee_offences
 callee_judged functions count name id f h e n =
-    let o : (function_offences functions name ≡ []) × (id_named functions name ≡ id) = judged_ok (function_offences functions name) (id_named functions name) id h in
+    let o : (function_offences functions name ≡ []) × (id_named functions name ≡ id) = judged_ok (function_offences functions name)
+        (id_named functions name) id h in
     let t : (f.params == count) ≡ true = grind (arith, nat_tests) in
     rw (o.0, e, t, o.1) refl
 
 -- The NAME of one with another number of parameters.
-pub count_judged : (functions : List Function) (count : ℕ) (name : Lexeme) (id : FunId) (f : Function) → judged (function_offences functions name) (id_named functions name) ≡ Ok id → function_named functions name ≡ Some f → (f.params ≡ count → ⊥) → judged (callee_offences functions count name) (id_named functions name) ≡ Err (offence name Arguments)
+pub count_judged : (functions : List Function) (count : ℕ) (name : Lexeme) (id : FunId) (f : Function) →
+    judged (function_offences functions name) (id_named functions name) ≡ Ok id → function_named functions name ≡ Some f → (f.params ≡ count → ⊥) →
+    judged (callee_offences functions count name) (id_named functions name) ≡ Err (offence name Arguments)
 unfolding callee_offences
 count_judged functions count name id f h e n =
-    let o : (function_offences functions name ≡ []) × (id_named functions name ≡ id) = judged_ok (function_offences functions name) (id_named functions name) id h in
+    let o : (function_offences functions name ≡ []) × (id_named functions name ≡ id) = judged_ok (function_offences functions name)
+        (id_named functions name) id h in
     let t : (f.params == count) ≡ false = grind (arith, nat_tests) in
     rw (o.0, e, t) refl
 
-pub callee_unnamed : (functions : List Function) (count : ℕ) (name : Lexeme) (e : Refused) → judged (function_offences functions name) (id_named functions name) ≡ Err e → judged (callee_offences functions count name) (id_named functions name) ≡ Err e
+pub callee_unnamed : (functions : List Function) (count : ℕ) (name : Lexeme) (e : Refused) →
+    judged (function_offences functions name) (id_named functions name) ≡ Err e →
+    judged (callee_offences functions count name) (id_named functions name) ≡ Err e
 unfolding callee_offences
 callee_unnamed functions count name e h = go (function_offences functions name) h
   where
-    go : (es : List Refused) → judged es (id_named functions name) ≡ Err e → judged (highest (es ++ other_count (function_named functions name) count name)) (id_named functions name) ≡ Err e
+    go : (es : List Refused) → judged es (id_named functions name) ≡ Err e →
+        judged (highest (es ++ other_count (function_named functions name) count name)) (id_named functions name) ≡ Err e
     go [] h = cc
     go (f ∷ fs) h = let g : f ≡ e = cc in rw g refl
 
 -- ---- the number of a line
 
-pub cond_judged : (f : Function) (number : Lexeme) (k : ℕ) (line : Line) → position (is_numbered number) f.code ≡ Some k → slice_get f.code k ≡ Some line → is_cond line.instr ≡ true → judged (label_offences (Some f) number) (label_of (Some f) number) ≡ Ok (let label : Label = record { 0 = k } in label)
+pub cond_judged : (f : Function) (number : Lexeme) (k : ℕ) (line : Line) → position (is_numbered number) f.code ≡ Some k → slice_get f.code k ≡ Some line →
+    is_cond line.instr ≡ true → judged (label_offences (Some f) number) (label_of (Some f) number) ≡ Ok (let label : Label = record { 0 = k } in label)
 cond_judged f number k line p s h =
     let e : find (is_numbered number) f.code ≡ Some line = find_placed (is_numbered number) f.code k p ∙ s in
     rw (e, h, p) refl
 
-pub no_cond_judged : (f : Function) (number : Lexeme) (k : ℕ) (line : Line) → position (is_numbered number) f.code ≡ Some k → slice_get f.code k ≡ Some line → is_cond line.instr ≡ false → judged (label_offences (Some f) number) (label_of (Some f) number) ≡ Err (offence number NotCond)
+pub no_cond_judged : (f : Function) (number : Lexeme) (k : ℕ) (line : Line) → position (is_numbered number) f.code ≡ Some k → slice_get f.code k ≡ Some line →
+    is_cond line.instr ≡ false → judged (label_offences (Some f) number) (label_of (Some f) number) ≡ Err (offence number NotCond)
 no_cond_judged f number k line p s h =
     let e : find (is_numbered number) f.code ≡ Some line = find_placed (is_numbered number) f.code k p ∙ s in
     rw (e, h) refl
 
-pub no_label_judged : (f : Function) (number : Lexeme) → position (is_numbered number) f.code ≡ None → judged (label_offences (Some f) number) (label_of (Some f) number) ≡ Err (offence number NoLabel)
+pub no_label_judged : (f : Function) (number : Lexeme) → position (is_numbered number) f.code ≡ None →
+    judged (label_offences (Some f) number) (label_of (Some f) number) ≡ Err (offence number NoLabel)
 no_label_judged f number p =
     let e : find (is_numbered number) f.code ≡ None = find_none (is_numbered number) f.code p in
     rw e refl

@@ -1,5 +1,6 @@
 -- Readers of many items, turn by turn.
-use Rattle.std.proofs.Common.{◌≡◌, ℕ, zero, suc, ◌<◌, ◌≤◌, Bool, true, false, cond, inl, inr, List, [], ◌∷◌, ◌++◌, length, Ok, Err, refl, ap, sym, ◌∙◌, append_assoc, arith}
+use Rattle.std.proofs.Common.{◌≡◌, ℕ, zero, suc, ◌<◌, ◌≤◌, Bool, true, false, cond, inl, inr, List, [], ◌∷◌, ◌++◌, length, Ok, Err, refl, ap, sym, ◌∙◌,
+    append_assoc, arith}
 use Rattle.std.specs.Prelude.{map, flat_map}
 use Rattle.std.proofs.lemmas.List.{append-nil}
 use Rattle.std.proofs.lemmas.Bool.{cases_Bool}
@@ -52,7 +53,8 @@ number_shorter (t ∷ ts) h = omega arith
 -- ---- items one after another
 
 -- Where each item takes a token, the number of tokens is enough.
-module _ {X : Type 0} (more : List Lexeme → Bool) (one : List X → List Lexeme → Read X) (ends : more [] ≡ false) (short : (earlier : List X) (ts : List Lexeme) (x : X × List Lexeme) → more ts ≡ true → one earlier ts ≡ Ok x → length x.1 < length ts) where
+module _ {X : Type 0} (more : List Lexeme → Bool) (one : List X → List Lexeme → Read X) (ends : more [] ≡ false)
+    (short : (earlier : List X) (ts : List Lexeme) (x : X × List Lexeme) → more ts ≡ true → one earlier ts ≡ Ok x → length x.1 < length ts) where
   enough : (n m : ℕ) (earlier : List X) (ts : List Lexeme) → length ts ≤ n → length ts ≤ m → many_at more one n earlier ts ≡ many_at more one m earlier ts
   enough zero zero earlier ts h g = refl
   enough zero (suc m) earlier [] h g = rw ends refl
@@ -77,7 +79,8 @@ module _ {X : Type 0} (more : List Lexeme → Bool) (one : List X → List Lexem
   all_fails earlier [] e b h = absurd (let d : true ≡ false = sym b ∙ ends in cc)
   all_fails earlier (t ∷ ts) e b h = rw (b, h) refl
 
-  pub all_goes : (earlier : List X) (ts : List Lexeme) (x : X × List Lexeme) → more ts ≡ true → one earlier ts ≡ Ok x → all_at more one earlier ts ≡ all_at more one (earlier ++ x.0 ∷ []) x.1
+  pub all_goes : (earlier : List X) (ts : List Lexeme) (x : X × List Lexeme) → more ts ≡ true → one earlier ts ≡ Ok x →
+      all_at more one earlier ts ≡ all_at more one (earlier ++ x.0 ∷ []) x.1
   unfolding all_at
   all_goes earlier [] x b h = absurd (let d : true ≡ false = sym b ∙ ends in cc)
   all_goes earlier (t ∷ ts) x b h =
@@ -85,8 +88,10 @@ module _ {X : Type 0} (more : List Lexeme → Bool) (one : List X → List Lexem
       rw (b, h) (enough (length ts) (length x.1) (earlier ++ x.0 ∷ []) x.1 (omega arith) (omega arith))
 
   -- What is read of the tokens of items, where each reads as it means.
-  pub all_reads : {T : Type 0} (spelled : T → List Lexeme) (offends : List X → T → List Refused) (means : T → X) (earlier : List X) (items : List T) (ts : List Lexeme)
-      → ((earlier : List X) (t : T) (ts : List Lexeme) → (more (spelled t ++ ts) ≡ true) × (one earlier (spelled t ++ ts) ≡ reads (offends earlier t) (means t) ts))
+  pub all_reads : {T : Type 0} (spelled : T → List Lexeme) (offends : List X → T → List Refused) (means : T → X) (earlier : List X) (items : List T)
+      (ts : List Lexeme)
+      → ((earlier : List X) (t : T) (ts : List Lexeme) →
+          (more (spelled t ++ ts) ≡ true) × (one earlier (spelled t ++ ts) ≡ reads (offends earlier t) (means t) ts))
       → more ts ≡ false
       → all_at more one earlier (flat_map spelled items ++ ts) ≡ reads (each_offends offends means earlier items) (earlier ++ map means items) ts
   all_reads spelled offends means earlier [] ts r m = rw append-nil (all_stops earlier ts m)
@@ -95,7 +100,11 @@ module _ {X : Type 0} (more : List Lexeme → Bool) (one : List X → List Lexem
       let regroup : (spelled t ++ flat_map spelled items) ++ ts ≡ spelled t ++ us = append_assoc (spelled t) (flat_map spelled items) ts in
       rw regroup (go (offends earlier t) refl (all_reads spelled offends means (earlier ++ means t ∷ []) items ts r m))
     where
-      go : (es : List Refused) → offends earlier t ≡ es → all_at more one (earlier ++ means t ∷ []) (flat_map spelled items ++ ts) ≡ reads (each_offends offends means (earlier ++ means t ∷ []) items) ((earlier ++ means t ∷ []) ++ map means items) ts → all_at more one earlier (spelled t ++ (flat_map spelled items ++ ts)) ≡ reads (offends earlier t ++ each_offends offends means (earlier ++ means t ∷ []) items) (earlier ++ (means t ∷ map means items)) ts
+      go : (es : List Refused) → offends earlier t ≡ es →
+          all_at more one (earlier ++ means t ∷ []) (flat_map spelled items ++ ts) ≡ reads (each_offends offends means (earlier ++ means t ∷ []) items)
+          ((earlier ++ means t ∷ []) ++ map means items) ts →
+          all_at more one earlier (spelled t ++ (flat_map spelled items ++ ts)) ≡ reads
+          (offends earlier t ++ each_offends offends means (earlier ++ means t ∷ []) items) (earlier ++ (means t ∷ map means items)) ts
       go [] o ih =
           let us : List Lexeme = flat_map spelled items ++ ts in
           rw o (all_goes earlier (spelled t ++ us) (means t, us) (r earlier t us).0 ((r earlier t us).1 ∙ rw o refl)
@@ -121,7 +130,8 @@ pub judged_within : {X Y : Type 0} (es : List Refused) (x : X) (n : ℕ) (f : X 
 judged_within [] x n f h = h
 judged_within {Y = Y} (e ∷ es) x n f h = err_within Y n e
 
-pub then_within : {X Y : Type 0} (read : Read X) (m n : ℕ) (f : X × List Lexeme → Read Y) → Within X m read → ((x : X × List Lexeme) → length x.1 ≤ m → Within Y n (f x)) → Within Y n (read >>= f)
+pub then_within : {X Y : Type 0} (read : Read X) (m n : ℕ) (f : X × List Lexeme → Read Y) → Within X m read →
+    ((x : X × List Lexeme) → length x.1 ≤ m → Within Y n (f x)) → Within Y n (read >>= f)
 then_within (Ok x) m n f h g = g x (h.within x refl)
 then_within {Y = Y} (Err e) m n f h g = err_within Y n e
 

@@ -43,8 +43,7 @@ fn read_cells(tokens: &mut Tokens<'_>) -> Result<u32, ParseError>
     if tokens.is_at(Terminal::Memory) {
         let _memory = tokens.take();
         let cells = tokens.take();
-        let number = number_within(cells, 0, 65_536)?;
-        Ok(number)
+        number_within(cells, 0, 65_536)
     } else {
         Ok(USUAL_CELLS)
     }
@@ -60,8 +59,7 @@ fn read_limit(tokens: &mut Tokens<'_>, spent: u32) -> Result<u32, ParseError>
 {
     let _limit = tokens.take();
     let limit = tokens.take();
-    let value = limit_behind(limit, spent)?;
-    Ok(value)
+    limit_behind(limit, spent)
 }
 
 // What begins a run.

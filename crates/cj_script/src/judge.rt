@@ -33,8 +33,7 @@ pub fn limit_behind(limit: Lexeme<'_>, spent: u32) -> Result<u32, ParseError>
     if limit.number > 4_000_000 - spent as i64 {
         return Err(refused(limit, Kind::TooMany));
     }
-    let number = number_within(limit, 1, 1_000_000)?;
-    Ok(number)
+    number_within(limit, 1, 1_000_000)
 }
 
 /// The place of the first function with that name.

@@ -69,7 +69,8 @@ word_format = record {
 
 -- ---- formats of formats
 
-pub only_format : {A : Type 0} {In : A → Type 0} {spell : A → List ℕ} {read : Reading A} (P : A → Type 0) (test : A → Bool) → ((x : A) → test x ≡ true → P x) → ((x : A) → P x → test x ≡ true) → IsFormat In spell read → IsFormat (λ x. In x × P x) spell (λ ws. only test (read ws))
+pub only_format : {A : Type 0} {In : A → Type 0} {spell : A → List ℕ} {read : Reading A} (P : A → Type 0) (test : A → Bool) → ((x : A) → test x ≡ true → P x) →
+    ((x : A) → P x → test x ≡ true) → IsFormat In spell read → IsFormat (λ x. In x × P x) spell (λ ws. only test (read ws))
 only_format {A} {In} {spell} {read} P test sound complete F = record {
   reads = λ x rest h. rw (F.reads x rest h.0, complete x h.1) refl;
   spells = λ ws x rest e.
@@ -78,7 +79,8 @@ only_format {A} {In} {spell} {read} P test sound complete F = record {
       ((s.0, sound x p.0), s.1);
 }
 
-pub made_format : {A B : Type 0} {In : A → Type 0} {spell : A → List ℕ} {read : Reading A} (f : A → B) (g : B → A) → ((a : A) → g (f a) ≡ a) → ((b : B) → f (g b) ≡ b) → IsFormat In spell read → IsFormat (λ b. In (g b)) (λ b. spell (g b)) (λ ws. made f (read ws))
+pub made_format : {A B : Type 0} {In : A → Type 0} {spell : A → List ℕ} {read : Reading A} (f : A → B) (g : B → A) → ((a : A) → g (f a) ≡ a) →
+    ((b : B) → f (g b) ≡ b) → IsFormat In spell read → IsFormat (λ b. In (g b)) (λ b. spell (g b)) (λ ws. made f (read ws))
 made_format {A} {B} {In} {spell} {read} f g back forth F = record {
   reads = λ b rest h. rw (F.reads (g b) rest h, forth b) refl;
   spells = λ ws b rest e.
@@ -88,7 +90,8 @@ made_format {A} {B} {In} {spell} {read} f g back forth F = record {
       (subst In (sym same) s.0, s.1 ∙ ap (λ a. spell a ++ rest) (sym same));
 }
 
-pub same_format : {A : Type 0} {In : A → Type 0} {spell : A → List ℕ} {read : Reading A} (In' : A → Type 0) → ((x : A) → In x → In' x) → ((x : A) → In' x → In x) → IsFormat In spell read → IsFormat In' spell read
+pub same_format : {A : Type 0} {In : A → Type 0} {spell : A → List ℕ} {read : Reading A} (In' : A → Type 0) → ((x : A) → In x → In' x) →
+    ((x : A) → In' x → In x) → IsFormat In spell read → IsFormat In' spell read
 same_format In' to from F = record {
   reads = λ x rest h. F.reads x rest (from x h);
   spells = λ ws x rest e. let s = F.spells ws x rest e in (to x s.0, s.1);
@@ -106,7 +109,8 @@ at_most_format most =
 
 -- ---- two, three and four items
 
-pub record Two {A B Z : Type 0} (InA : A → Type 0) (InB : B → Type 0) (words : A → B → List ℕ) (f : A → B → Z) (ws : List ℕ) (z : Z) (rest : List ℕ) : Type 0 where
+pub record Two {A B Z : Type 0} (InA : A → Type 0) (InB : B → Type 0) (words : A → B → List ℕ) (f : A → B → Z) (ws : List ℕ) (z : Z)
+    (rest : List ℕ) : Type 0 where
   pub a : A
   pub b : B
   pub is : f a b ≡ z
@@ -114,11 +118,14 @@ pub record Two {A B Z : Type 0} (InA : A → Type 0) (InB : B → Type 0) (words
   pub in_b : InB b
   pub spelled : ws ≡ words a b ++ rest
 
-pub two_reads : {A B Z : Type 0} {InA : A → Type 0} {InB : B → Type 0} {sA : A → List ℕ} {sB : B → List ℕ} {rA : Reading A} {rB : Reading B} (f : A → B → Z) → IsFormat InA sA rA → IsFormat InB sB rB → (a : A) (b : B) (rest : List ℕ) → InA a → InB b → two_at f rA rB ((sA a ++ sB b) ++ rest) ≡ Some (f a b, rest)
+pub two_reads : {A B Z : Type 0} {InA : A → Type 0} {InB : B → Type 0} {sA : A → List ℕ} {sB : B → List ℕ} {rA : Reading A} {rB : Reading B} (f : A → B → Z) →
+    IsFormat InA sA rA → IsFormat InB sB rB → (a : A) (b : B) (rest : List ℕ) → InA a → InB b → two_at f rA rB ((sA a ++ sB b) ++ rest) ≡ Some (f a b, rest)
 two_reads {sA = sA} {sB = sB} f FA FB a b rest ia ib =
     rw (append_assoc (sA a) (sB b) rest, FA.reads a (sB b ++ rest) ia, FB.reads b rest ib) refl
 
-pub two_spells : {A B Z : Type 0} {InA : A → Type 0} {InB : B → Type 0} {sA : A → List ℕ} {sB : B → List ℕ} {rA : Reading A} {rB : Reading B} (f : A → B → Z) → IsFormat InA sA rA → IsFormat InB sB rB → (ws : List ℕ) (z : Z) (rest : List ℕ) → two_at f rA rB ws ≡ Some (z, rest) → Two InA InB (λ a b. sA a ++ sB b) f ws z rest
+pub two_spells : {A B Z : Type 0} {InA : A → Type 0} {InB : B → Type 0} {sA : A → List ℕ} {sB : B → List ℕ} {rA : Reading A} {rB : Reading B} (f : A → B → Z) →
+    IsFormat InA sA rA → IsFormat InB sB rB → (ws : List ℕ) (z : Z) (rest : List ℕ) → two_at f rA rB ws ≡ Some (z, rest) →
+    Two InA InB (λ a b. sA a ++ sB b) f ws z rest
 two_spells {A} {B} {Z} {InA} {InB} {sA} {sB} {rA} {rB} f FA FB ws z rest e =
     let more : A → B × List ℕ → Read Z = λ a y. Some (f a y.0, y.1) in
     let one = bound (rA ws) (λ x. rB x.1 >>= more x.0) (z, rest) e in
@@ -135,7 +142,8 @@ two_spells {A} {B} {Z} {InA} {InB} {sA} {sB} {rA} {rB} f FA FB ws z rest e =
       spelled = sa.1 ∙ ap (λ w. sA one.from.0 ++ w) (sb.1 ∙ ap (λ w. sB two.from.0 ++ w) last) ∙ sym (append_assoc (sA one.from.0) (sB two.from.0) rest);
     }
 
-pub record Three {A B C Z : Type 0} (InA : A → Type 0) (InB : B → Type 0) (InC : C → Type 0) (words : A → B → C → List ℕ) (f : A → B → C → Z) (ws : List ℕ) (z : Z) (rest : List ℕ) : Type 0 where
+pub record Three {A B C Z : Type 0} (InA : A → Type 0) (InB : B → Type 0) (InC : C → Type 0) (words : A → B → C → List ℕ) (f : A → B → C →
+    Z) (ws : List ℕ) (z : Z) (rest : List ℕ) : Type 0 where
   pub a : A
   pub b : B
   pub c : C
@@ -145,11 +153,16 @@ pub record Three {A B C Z : Type 0} (InA : A → Type 0) (InB : B → Type 0) (I
   pub in_c : InC c
   pub spelled : ws ≡ words a b c ++ rest
 
-pub three_reads : {A B C Z : Type 0} {InA : A → Type 0} {InB : B → Type 0} {InC : C → Type 0} {sA : A → List ℕ} {sB : B → List ℕ} {sC : C → List ℕ} {rA : Reading A} {rB : Reading B} {rC : Reading C} (f : A → B → C → Z) → IsFormat InA sA rA → IsFormat InB sB rB → IsFormat InC sC rC → (a : A) (b : B) (c : C) (rest : List ℕ) → InA a → InB b → InC c → three_at f rA rB rC ((sA a ++ (sB b ++ sC c)) ++ rest) ≡ Some (f a b c, rest)
+pub three_reads : {A B C Z : Type 0} {InA : A → Type 0} {InB : B → Type 0} {InC : C → Type 0} {sA : A → List ℕ} {sB : B → List ℕ} {sC : C →
+    List ℕ} {rA : Reading A} {rB : Reading B} {rC : Reading C} (f : A → B → C → Z) → IsFormat InA sA rA → IsFormat InB sB rB → IsFormat InC sC rC →
+    (a : A) (b : B) (c : C) (rest : List ℕ) → InA a → InB b → InC c → three_at f rA rB rC ((sA a ++ (sB b ++ sC c)) ++ rest) ≡ Some (f a b c, rest)
 three_reads {sA = sA} {sB = sB} {sC = sC} f FA FB FC a b c rest ia ib ic =
-    rw (append_assoc (sA a) (sB b ++ sC c) rest, append_assoc (sB b) (sC c) rest, FA.reads a (sB b ++ (sC c ++ rest)) ia, FB.reads b (sC c ++ rest) ib, FC.reads c rest ic) refl
+    rw (append_assoc (sA a) (sB b ++ sC c) rest, append_assoc (sB b) (sC c) rest, FA.reads a (sB b ++ (sC c ++ rest)) ia, FB.reads b (sC c ++ rest) ib,
+        FC.reads c rest ic) refl
 
-pub three_spells : {A B C Z : Type 0} {InA : A → Type 0} {InB : B → Type 0} {InC : C → Type 0} {sA : A → List ℕ} {sB : B → List ℕ} {sC : C → List ℕ} {rA : Reading A} {rB : Reading B} {rC : Reading C} (f : A → B → C → Z) → IsFormat InA sA rA → IsFormat InB sB rB → IsFormat InC sC rC → (ws : List ℕ) (z : Z) (rest : List ℕ) → three_at f rA rB rC ws ≡ Some (z, rest) → Three InA InB InC (λ a b c. sA a ++ (sB b ++ sC c)) f ws z rest
+pub three_spells : {A B C Z : Type 0} {InA : A → Type 0} {InB : B → Type 0} {InC : C → Type 0} {sA : A → List ℕ} {sB : B → List ℕ} {sC : C →
+    List ℕ} {rA : Reading A} {rB : Reading B} {rC : Reading C} (f : A → B → C → Z) → IsFormat InA sA rA → IsFormat InB sB rB → IsFormat InC sC rC →
+    (ws : List ℕ) (z : Z) (rest : List ℕ) → three_at f rA rB rC ws ≡ Some (z, rest) → Three InA InB InC (λ a b c. sA a ++ (sB b ++ sC c)) f ws z rest
 three_spells {A} {B} {C} {Z} {InA} {InB} {InC} {sA} {sB} {sC} {rA} {rB} {rC} f FA FB FC ws z rest e =
     let one = bound (rA ws) (λ x. two_at (f x.0) rB rC x.1) (z, rest) e in
     let sa = FA.spells ws one.from.0 one.from.1 one.is in
@@ -165,7 +178,8 @@ three_spells {A} {B} {C} {Z} {InA} {InB} {InC} {sA} {sB} {sC} {rA} {rB} {rC} f F
       spelled = sa.1 ∙ ap (λ w. sA one.from.0 ++ w) more.spelled ∙ sym (append_assoc (sA one.from.0) (sB more.a ++ sC more.b) rest);
     }
 
-pub record Four {A B C D Z : Type 0} (InA : A → Type 0) (InB : B → Type 0) (InC : C → Type 0) (InD : D → Type 0) (words : A → B → C → D → List ℕ) (f : A → B → C → D → Z) (ws : List ℕ) (z : Z) (rest : List ℕ) : Type 0 where
+pub record Four {A B C D Z : Type 0} (InA : A → Type 0) (InB : B → Type 0) (InC : C → Type 0) (InD : D → Type 0) (words : A → B → C → D → List ℕ) (f : A → B →
+    C → D → Z) (ws : List ℕ) (z : Z) (rest : List ℕ) : Type 0 where
   pub a : A
   pub b : B
   pub c : C
@@ -177,11 +191,18 @@ pub record Four {A B C D Z : Type 0} (InA : A → Type 0) (InB : B → Type 0) (
   pub in_d : InD d
   pub spelled : ws ≡ words a b c d ++ rest
 
-pub four_reads : {A B C D Z : Type 0} {InA : A → Type 0} {InB : B → Type 0} {InC : C → Type 0} {InD : D → Type 0} {sA : A → List ℕ} {sB : B → List ℕ} {sC : C → List ℕ} {sD : D → List ℕ} {rA : Reading A} {rB : Reading B} {rC : Reading C} {rD : Reading D} (f : A → B → C → D → Z) → IsFormat InA sA rA → IsFormat InB sB rB → IsFormat InC sC rC → IsFormat InD sD rD → (a : A) (b : B) (c : C) (d : D) (rest : List ℕ) → InA a → InB b → InC c → InD d → four_at f rA rB rC rD ((sA a ++ (sB b ++ (sC c ++ sD d))) ++ rest) ≡ Some (f a b c d, rest)
+pub four_reads : {A B C D Z : Type 0} {InA : A → Type 0} {InB : B → Type 0} {InC : C → Type 0} {InD : D → Type 0} {sA : A → List ℕ} {sB : B → List ℕ} {sC : C →
+    List ℕ} {sD : D → List ℕ} {rA : Reading A} {rB : Reading B} {rC : Reading C} {rD : Reading D} (f : A → B → C → D → Z) → IsFormat InA sA rA →
+    IsFormat InB sB rB → IsFormat InC sC rC → IsFormat InD sD rD → (a : A) (b : B) (c : C) (d : D) (rest : List ℕ) → InA a → InB b → InC c → InD d →
+    four_at f rA rB rC rD ((sA a ++ (sB b ++ (sC c ++ sD d))) ++ rest) ≡ Some (f a b c d, rest)
 four_reads {sA = sA} {sB = sB} {sC = sC} {sD = sD} f FA FB FC FD a b c d rest ia ib ic id =
-    rw (append_assoc (sA a) (sB b ++ (sC c ++ sD d)) rest, append_assoc (sB b) (sC c ++ sD d) rest, append_assoc (sC c) (sD d) rest, FA.reads a (sB b ++ (sC c ++ (sD d ++ rest))) ia, FB.reads b (sC c ++ (sD d ++ rest)) ib, FC.reads c (sD d ++ rest) ic, FD.reads d rest id) refl
+    rw (append_assoc (sA a) (sB b ++ (sC c ++ sD d)) rest, append_assoc (sB b) (sC c ++ sD d) rest, append_assoc (sC c) (sD d) rest,
+        FA.reads a (sB b ++ (sC c ++ (sD d ++ rest))) ia, FB.reads b (sC c ++ (sD d ++ rest)) ib, FC.reads c (sD d ++ rest) ic, FD.reads d rest id) refl
 
-pub four_spells : {A B C D Z : Type 0} {InA : A → Type 0} {InB : B → Type 0} {InC : C → Type 0} {InD : D → Type 0} {sA : A → List ℕ} {sB : B → List ℕ} {sC : C → List ℕ} {sD : D → List ℕ} {rA : Reading A} {rB : Reading B} {rC : Reading C} {rD : Reading D} (f : A → B → C → D → Z) → IsFormat InA sA rA → IsFormat InB sB rB → IsFormat InC sC rC → IsFormat InD sD rD → (ws : List ℕ) (z : Z) (rest : List ℕ) → four_at f rA rB rC rD ws ≡ Some (z, rest) → Four InA InB InC InD (λ a b c d. sA a ++ (sB b ++ (sC c ++ sD d))) f ws z rest
+pub four_spells : {A B C D Z : Type 0} {InA : A → Type 0} {InB : B → Type 0} {InC : C → Type 0} {InD : D → Type 0} {sA : A → List ℕ} {sB : B →
+    List ℕ} {sC : C → List ℕ} {sD : D → List ℕ} {rA : Reading A} {rB : Reading B} {rC : Reading C} {rD : Reading D} (f : A → B → C → D → Z) →
+    IsFormat InA sA rA → IsFormat InB sB rB → IsFormat InC sC rC → IsFormat InD sD rD → (ws : List ℕ) (z : Z) (rest : List ℕ) →
+    four_at f rA rB rC rD ws ≡ Some (z, rest) → Four InA InB InC InD (λ a b c d. sA a ++ (sB b ++ (sC c ++ sD d))) f ws z rest
 four_spells {A} {B} {C} {D} {Z} {InA} {InB} {InC} {InD} {sA} {sB} {sC} {sD} {rA} {rB} {rC} {rD} f FA FB FC FD ws z rest e =
     let one = bound (rA ws) (λ x. three_at (f x.0) rB rC rD x.1) (z, rest) e in
     let sa = FA.spells ws one.from.0 one.from.1 one.is in
@@ -201,7 +222,8 @@ four_spells {A} {B} {C} {D} {Z} {InA} {InB} {InC} {InD} {sA} {sB} {sC} {sD} {rA}
 
 -- ---- lists behind their counts
 
-each_reads : {A : Type 0} {In : A → Type 0} {spell : A → List ℕ} {read : Reading A} → IsFormat In spell read → (xs earlier : List A) (rest : List ℕ) → All In xs → each_at read (length xs) earlier (flat_map spell xs ++ rest) ≡ Some (earlier ++ xs, rest)
+each_reads : {A : Type 0} {In : A → Type 0} {spell : A → List ℕ} {read : Reading A} → IsFormat In spell read → (xs earlier : List A) (rest : List ℕ) →
+    All In xs → each_at read (length xs) earlier (flat_map spell xs ++ rest) ≡ Some (earlier ++ xs, rest)
 each_reads F [] earlier rest h = ap (λ l. Some (l, rest)) (sym (append-nil earlier))
 each_reads {A} {In} {spell} {read} F (x ∷ xs) earlier rest h =
     rw (append_assoc (spell x) (flat_map spell xs) rest, F.reads x (flat_map spell xs ++ rest) (All-head In x xs h))
@@ -214,7 +236,8 @@ pub record Each {A : Type 0} (In : A → Type 0) (spell : A → List ℕ) (n : �
   pub within : All In items
   pub spelled : ws ≡ flat_map spell items ++ rest
 
-each_spells : {A : Type 0} {In : A → Type 0} {spell : A → List ℕ} {read : Reading A} → IsFormat In spell read → (n : ℕ) (earlier : List A) (ws : List ℕ) (all : List A) (rest : List ℕ) → each_at read n earlier ws ≡ Some (all, rest) → Each In spell n earlier ws all rest
+each_spells : {A : Type 0} {In : A → Type 0} {spell : A → List ℕ} {read : Reading A} → IsFormat In spell read →
+    (n : ℕ) (earlier : List A) (ws : List ℕ) (all : List A) (rest : List ℕ) → each_at read n earlier ws ≡ Some (all, rest) → Each In spell n earlier ws all rest
 each_spells {A} {In} F zero earlier ws all rest e = record {
   items = [];
   is = append-nil earlier ∙ first_same earlier all ws rest e;
@@ -240,7 +263,8 @@ pub record EachFrom {A : Type 0} (In : A → Type 0) (spell : A → List ℕ) (n
   pub within : All In all
   pub spelled : ws ≡ flat_map spell all ++ rest
 
-pub each_from : {A : Type 0} {In : A → Type 0} {spell : A → List ℕ} {read : Reading A} → IsFormat In spell read → (n : ℕ) (ws : List ℕ) (all : List A) (rest : List ℕ) → each_at read n [] ws ≡ Some (all, rest) → EachFrom In spell n ws all rest
+pub each_from : {A : Type 0} {In : A → Type 0} {spell : A → List ℕ} {read : Reading A} → IsFormat In spell read →
+    (n : ℕ) (ws : List ℕ) (all : List A) (rest : List ℕ) → each_at read n [] ws ≡ Some (all, rest) → EachFrom In spell n ws all rest
 each_from {A} {In} {spell} F n ws all rest e =
     let h = each_spells F n [] ws all rest e in
     record {
@@ -249,10 +273,12 @@ each_from {A} {In} {spell} F n ws all rest e =
       spelled = h.spelled ∙ ap (λ (l : List A). flat_map spell l ++ rest) h.is;
     }
 
-pub each_to : {A : Type 0} {In : A → Type 0} {spell : A → List ℕ} {read : Reading A} → IsFormat In spell read → (xs : List A) (rest : List ℕ) → All In xs → each_at read (length xs) [] (flat_map spell xs ++ rest) ≡ Some (xs, rest)
+pub each_to : {A : Type 0} {In : A → Type 0} {spell : A → List ℕ} {read : Reading A} → IsFormat In spell read → (xs : List A) (rest : List ℕ) → All In xs →
+    each_at read (length xs) [] (flat_map spell xs ++ rest) ≡ Some (xs, rest)
 each_to F xs rest h = each_reads F xs [] rest h
 
-pub counted_format : {A : Type 0} {InN : ℕ → Type 0} {In : A → Type 0} {spell : A → List ℕ} {count : Reading ℕ} {read : Reading A} → IsFormat InN one_word count → IsFormat In spell read → IsFormat (λ xs. InN (length xs) × All In xs) (counted spell) (counted_at count read)
+pub counted_format : {A : Type 0} {InN : ℕ → Type 0} {In : A → Type 0} {spell : A → List ℕ} {count : Reading ℕ} {read : Reading A} →
+    IsFormat InN one_word count → IsFormat In spell read → IsFormat (λ xs. InN (length xs) × All In xs) (counted spell) (counted_at count read)
 counted_format {A} {InN} {In} {spell} {count} {read} FN F = record {
   reads = λ xs rest h. rw (FN.reads (length xs) (flat_map spell xs ++ rest) h.0) (each_to F xs rest h.1);
   spells = λ ws xs rest e.
@@ -270,7 +296,8 @@ pub record Kind {Z : Type 0} (by : ℕ → Reading Z) (ws : List ℕ) (z : Z) (r
   pub is : ws ≡ kind ∷ more
   pub then : by kind more ≡ Some (z, rest)
 
-pub kind_from : {Z : Type 0} (by : ℕ → Reading Z) (ws : List ℕ) (z : Z) (rest : List ℕ) → (word_at ws >>= λ kind. by kind.0 kind.1) ≡ Some (z, rest) → Kind by ws z rest
+pub kind_from : {Z : Type 0} (by : ℕ → Reading Z) (ws : List ℕ) (z : Z) (rest : List ℕ) → (word_at ws >>= λ kind. by kind.0 kind.1) ≡ Some (z, rest) →
+    Kind by ws z rest
 kind_from by ws z rest e =
     let k = bound (word_at ws) (λ kind. by kind.0 kind.1) (z, rest) e in
     record { kind = k.from.0; more = k.from.1; is = word_from ws k.from.0 k.from.1 k.is; then = k.then }
@@ -286,7 +313,8 @@ by_kind kind n a b z is_kind other = decided (kind == n) a b z (λ t e. is_kind 
 pub nothing_read : {Z G : Type 0} (z : Z) → None ≡ Some z → G
 nothing_read z e = cc
 
-pub kinded : {Z : Type 0} (P : Z → Type 0) (words : Z → List ℕ) (n : ℕ) (ws : List ℕ) (kind : ℕ) (more : List ℕ) (z : Z) (rest : List ℕ) (y : Z) (tail : List ℕ) → ws ≡ kind ∷ more → kind ≡ n → y ≡ z → P y → more ≡ tail ++ rest → words y ≡ n ∷ tail → P z × (ws ≡ words z ++ rest)
+pub kinded : {Z : Type 0} (P : Z → Type 0) (words : Z → List ℕ) (n : ℕ) (ws : List ℕ) (kind : ℕ) (more : List ℕ) (z : Z) (rest : List ℕ) (y : Z)
+    (tail : List ℕ) → ws ≡ kind ∷ more → kind ≡ n → y ≡ z → P y → more ≡ tail ++ rest → words y ≡ n ∷ tail → P z × (ws ≡ words z ++ rest)
 kinded {Z} P words n ws kind more z rest y tail front is same holds spelled begins =
     let w : ws ≡ words y ++ rest = front ∙ rw (is, spelled, begins) refl in
     subst (λ (x : Z). P x × (ws ≡ words x ++ rest)) same (holds, w)

@@ -53,7 +53,8 @@ module _ (P : Program) (well : IsWellFormed P) where
   line_low g l None e h = elim h [ ]
   line_low g l (Some line) e h = slice_get_within g.code l line e
 
-  failure_low : (f : FunId) (label : Label) (o : Option Function) → slice_get P.functions f.0 ≡ o → IsFailure (option_map (λ line. line.instr) (option_and_then (λ g. slice_get g.code label.0) o)) → (f.0 < 64) × (label.0 < 256)
+  failure_low : (f : FunId) (label : Label) (o : Option Function) → slice_get P.functions f.0 ≡ o →
+      IsFailure (option_map (λ line. line.instr) (option_and_then (λ g. slice_get g.code label.0) o)) → (f.0 < 64) × (label.0 < 256)
   failure_low f label None e h = elim h [ ]
   failure_low f label (Some g) e h =
       let lt = line_low g label.0 (slice_get g.code label.0) refl h in

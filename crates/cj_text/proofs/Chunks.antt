@@ -25,7 +25,8 @@ before (p ∷ ps) rest = gap_text p.gap ++ (p.text ++ before ps rest)
 pub before_is : (ps : List Piece) (rest : List ℕ) → pieces_text ps ++ rest ≡ before ps rest
 before_is [] rest = refl
 before_is (p ∷ ps) rest =
-    append_assoc (gap_text p.gap ++ p.text) (pieces_text ps) rest ∙ append_assoc (gap_text p.gap) p.text (pieces_text ps ++ rest) ∙ ap (λ bytes. gap_text p.gap ++ (p.text ++ bytes)) (before_is ps rest)
+    append_assoc (gap_text p.gap ++ p.text) (pieces_text ps) rest ∙ append_assoc (gap_text p.gap) p.text (pieces_text ps ++ rest)
+        ∙ ap (λ bytes. gap_text p.gap ++ (p.text ++ bytes)) (before_is ps rest)
 
 pub before_append : (ps qs : List Piece) (rest : List ℕ) → before (ps ++ qs) rest ≡ before ps (before qs rest)
 before_append [] qs rest = refl
@@ -51,13 +52,15 @@ infixr 10 ◌▸◌
 pub ◌▸◌ : {l m n : ℕ} {ps qs : List Piece} {ts us : List Lexeme} → Chunk l m ps ts → Chunk m n qs us → Chunk l n (ps ++ qs) (ts ++ us)
 ◌▸◌ {l} {m} {n} {ps} {qs} {ts} {us} c d = record {
   front = λ rest apart. rw (before_append ps qs rest) (c.front (before qs rest) (d.front rest apart));
-  reads = λ rest apart. ap (lexed l) (before_append ps qs rest) ∙ (c.reads (before qs rest) (d.front rest apart) ∙ (ap (λ vs. ts ++ vs) (d.reads rest apart) ∙ sym (append_assoc ts us (lexed n rest))));
+  reads = λ rest apart. ap (lexed l) (before_append ps qs rest)
+      ∙ (c.reads (before qs rest) (d.front rest apart) ∙ (ap (λ vs. ts ++ vs) (d.reads rest apart) ∙ sym (append_assoc ts us (lexed n rest))));
 }
 
 infixr 10 ◌▹◌
 pub ◌▹◌ : {l m n : ℕ} {ps qs : List Piece} {ts us : List Lexeme} → Inside l m ps ts → Chunk m n qs us → Inside l n (ps ++ qs) (ts ++ us)
 ◌▹◌ {l} {m} {n} {ps} {qs} {ts} {us} c d = record {
-  reads = λ rest apart. ap (lexed l) (before_append ps qs rest) ∙ (c.reads (before qs rest) (d.front rest apart) ∙ (ap (λ vs. ts ++ vs) (d.reads rest apart) ∙ sym (append_assoc ts us (lexed n rest))));
+  reads = λ rest apart. ap (lexed l) (before_append ps qs rest)
+      ∙ (c.reads (before qs rest) (d.front rest apart) ∙ (ap (λ vs. ts ++ vs) (d.reads rest apart) ∙ sym (append_assoc ts us (lexed n rest))));
 }
 
 pub nothing : (line : ℕ) → Chunk line line [] []
@@ -113,7 +116,8 @@ key_blank line k h = record {
 
 -- the bytes behind a mark, where they stand apart
 behind_mark : (k : Terminal) (rest : List ℕ) → Apart rest → ends_mark k rest ≡ true
-behind_mark Minus rest h = let d : begins is_ascii_digit rest ≡ false = no_digit rest h in let g : begins is_greater rest ≡ false = no_greater rest h in rw (d, g) refl
+behind_mark Minus rest h = let d : begins is_ascii_digit rest ≡ false = no_digit rest h in let g : begins is_greater rest ≡ false = no_greater rest h in rw
+    (d, g) refl
 behind_mark _ rest h = refl
 
 pub mark_blank : (line : ℕ) (k : Terminal) → is_mark_terminal k ≡ true → Chunk line line (blank (spelling k) ∷ []) (fixed k line ∷ [])
@@ -122,10 +126,12 @@ mark_blank line k h = record {
   reads = λ rest apart. blank_again line (spelling k ++ rest) ∙ mark_again k line rest h (behind_mark k rest apart);
 }
 
-pub text_blank : (line : ℕ) (t : List ℕ) → list_all is_text_byte t ≡ true → Chunk line line (blank (codes "\"" ++ t ++ codes "\"") ∷ []) (text_token line t ∷ [])
+pub text_blank : (line : ℕ) (t : List ℕ) → list_all is_text_byte t ≡ true →
+    Chunk line line (blank (codes "\"" ++ t ++ codes "\"") ∷ []) (text_token line t ∷ [])
 text_blank line t h = record {
   front = λ rest apart. refl;
-  reads = λ rest apart. blank_again line ((34 ∷ (t ++ 34 ∷ [])) ++ rest) ∙ (ap (λ bytes. lexed line (34 ∷ bytes)) (append_assoc t (34 ∷ []) rest) ∙ text_again line t rest h);
+  reads = λ rest apart. blank_again line ((34 ∷ (t ++ 34 ∷ [])) ++ rest)
+      ∙ (ap (λ bytes. lexed line (34 ∷ bytes)) (append_assoc t (34 ∷ []) rest) ∙ text_again line t rest h);
 }
 
 -- ---- glued
@@ -155,16 +161,19 @@ key_glued line k h = record { reads = λ rest apart. keyword_again k line rest h
 abbrev pub IsOpening : Terminal → Type 0
 IsOpening k = (rest : List ℕ) → ends_mark k rest ≡ true
 
-pub opened_glued : {l m : ℕ} {ps : List Piece} {ts : List Lexeme} (k : Terminal) → is_mark_terminal k ≡ true → IsOpening k → IsApart k → Inside l m ps ts → Chunk l m (glued (spelling k) ∷ ps) (fixed k l ∷ ts)
+pub opened_glued : {l m : ℕ} {ps : List Piece} {ts : List Lexeme} (k : Terminal) → is_mark_terminal k ≡ true → IsOpening k → IsApart k → Inside l m ps ts →
+    Chunk l m (glued (spelling k) ∷ ps) (fixed k l ∷ ts)
 opened_glued {l} {m} {ps} {ts} k h o a c = record {
   front = λ rest apart. a (before ps rest);
   reads = λ rest apart. mark_again k l (before ps rest) h (o (before ps rest)) ∙ ap (λ us. fixed k l ∷ us) (c.reads rest apart);
 }
 
-pub opened_blank : {l m : ℕ} {ps : List Piece} {ts : List Lexeme} (k : Terminal) → is_mark_terminal k ≡ true → IsOpening k → Inside l m ps ts → Chunk l m (blank (spelling k) ∷ ps) (fixed k l ∷ ts)
+pub opened_blank : {l m : ℕ} {ps : List Piece} {ts : List Lexeme} (k : Terminal) → is_mark_terminal k ≡ true → IsOpening k → Inside l m ps ts →
+    Chunk l m (blank (spelling k) ∷ ps) (fixed k l ∷ ts)
 opened_blank {l} {m} {ps} {ts} k h o c = record {
   front = λ rest apart. refl;
-  reads = λ rest apart. blank_again l (spelling k ++ before ps rest) ∙ (mark_again k l (before ps rest) h (o (before ps rest)) ∙ ap (λ us. fixed k l ∷ us) (c.reads rest apart));
+  reads = λ rest apart. blank_again l (spelling k ++ before ps rest)
+      ∙ (mark_again k l (before ps rest) h (o (before ps rest)) ∙ ap (λ us. fixed k l ∷ us) (c.reads rest apart));
 }
 
 -- ---- behind a line feed

@@ -60,7 +60,8 @@ reg_known f r names differ h =
     let s : (x : List ℕ) × (slice_get f.regs r.0 ≡ Some x) = at_index f.regs r.0 h in
     let t : reg_text f r ≡ s.0 = ap text_or_none s.1 in
     let n : IsName s.0 = every_at IsName f.regs r.0 s.0 names s.1 in
-    let p : name_place f.regs s.0 ≡ Some r.0 = first_position (λ other. bytes_eq other s.0) r.0 f.regs s.0 (first_of_differing (λ name. name) bytes_eq bytes_eq-Decides r.0 f.regs s.0 differ s.1) in
+    let p : name_place f.regs s.0 ≡ Some r.0 = first_position (λ other. bytes_eq other s.0) r.0 f.regs s.0
+        (first_of_differing (λ name. name) bytes_eq bytes_eq-Decides r.0 f.regs s.0 differ s.1) in
     record {
       name = subst IsName (sym t) n;
       short = subst (λ w. nat_lt 32 (length w) ≡ false) (sym t) (name_short s.0 n);
@@ -85,19 +86,23 @@ pub values_differ : (code : List Line) → AllDifferBy (λ line. line.name) code
 values_differ code h = λ i j d below in_code e. h i j d below in_code (pos_same _ _ e)
 
 -- a line with its number is the first with it
-pub line_first : (code : List Line) (n : ℕ) (line : Line) → AllDifferBy (λ line. line.name) code → slice_get code n ≡ Some line → IsFirst (λ other. int_eq (pos other.name) (pos line.name)) n code line
+pub line_first : (code : List Line) (n : ℕ) (line : Line) → AllDifferBy (λ line. line.name) code → slice_get code n ≡ Some line →
+    IsFirst (λ other. int_eq (pos other.name) (pos line.name)) n code line
 line_first code n line differ s = first_of_differing (λ (l : Line). pos l.name) int_eq Decides-int_eq n code line (values_differ code differ) s
 
 small_number : (n : ℕ) → n ≤ 65535 → nat_le n 65535 ≡ true
 small_number n h = grind (arith, nat_tests)
 
-pub label_known : (f : Function) (l : Label) → Every (λ line. line.name ≤ 65535) f.code → AllDifferBy (λ line. line.name) f.code → l.0 < length f.code → LabelKnown f l
+pub label_known : (f : Function) (l : Label) → Every (λ line. line.name ≤ 65535) f.code → AllDifferBy (λ line. line.name) f.code → l.0 < length f.code →
+    LabelKnown f l
 label_known f l small differ h =
     let s : (x : Line) × (slice_get f.code l.0 ≡ Some x) = at_index f.code l.0 h in
     let t : label_number f l ≡ s.0.name = ap number_at s.1 in
     let w : label_text f l ≡ decimal s.0.name = ap number_text s.1 in
     let n : s.0.name ≤ 65535 = every_at (λ line. line.name ≤ 65535) f.code l.0 s.0 small s.1 in
-    let p : number_place (numbers f.code) (pos s.0.name) ≡ Some l.0 = position_map (λ (line : Line). pos line.name) (λ other. int_eq other (pos s.0.name)) 0 f.code ∙ first_placed (λ (other : Line). int_eq (pos other.name) (pos s.0.name)) l.0 f.code s.0 (line_first f.code l.0 s.0 differ s.1) in
+    let p : number_place (numbers f.code) (pos s.0.name) ≡ Some l.0 = position_map (λ (line : Line). pos line.name)
+        (λ other. int_eq other (pos s.0.name)) 0 f.code ∙ first_placed (λ (other : Line). int_eq (pos other.name) (pos s.0.name)) l.0 f.code s.0
+        (line_first f.code l.0 s.0 differ s.1) in
     record {
       text = w ∙ ap decimal (sym t);
       small = subst (λ n. n ≤ 65535) (sym t) n;
@@ -121,7 +126,8 @@ pub record CalleeKnown (fs : List Function) (id : FunId) (count : ℕ) : Type 0 
   pub short : nat_lt 32 (length (function_text fs id)) ≡ false
   pub place : first_named 0 (heads_in fs) (function_text fs id) ≡ Some (callee_in id count)
 
-first_named_at : (name : List ℕ) (i n : ℕ) (fs : List Function) (f : Function) → IsFirst (λ g. bytes_eq g.name name) n fs f → first_named i (heads_in fs) name ≡ Some (callee_in (record { 0 = i + n }) f.params)
+first_named_at : (name : List ℕ) (i n : ℕ) (fs : List Function) (f : Function) → IsFirst (λ g. bytes_eq g.name name) n fs f →
+    first_named i (heads_in fs) name ≡ Some (callee_in (record { 0 = i + n }) f.params)
 first_named_at name i n [] f h = absurd h
 first_named_at name i zero (g ∷ gs) f h =
     let e : i ≡ i + 0 = omega arith in
@@ -131,10 +137,12 @@ first_named_at name i (suc n) (g ∷ gs) f h =
     let e : i + 1 + n ≡ i + suc n = omega arith in
     rw h.0 (first_named_at name (i + 1) n gs f h.1 ∙ ap (λ k. Some (callee_in (record { 0 = k }) f.params)) e)
 
-pub function_first : (fs : List Function) (id : FunId) (f : Function) → AllDifferBy (λ f. f.name) fs → slice_get fs id.0 ≡ Some f → IsFirst (λ g. bytes_eq g.name f.name) id.0 fs f
+pub function_first : (fs : List Function) (id : FunId) (f : Function) → AllDifferBy (λ f. f.name) fs → slice_get fs id.0 ≡ Some f →
+    IsFirst (λ g. bytes_eq g.name f.name) id.0 fs f
 function_first fs id f differ s = first_of_differing (λ (g : Function). g.name) bytes_eq bytes_eq-Decides id.0 fs f differ s
 
-pub callee_known : (fs : List Function) (id : FunId) (count : ℕ) → Every (λ f. IsName f.name) fs → AllDifferBy (λ f. f.name) fs → Takes fs id count → CalleeKnown fs id count
+pub callee_known : (fs : List Function) (id : FunId) (count : ℕ) → Every (λ f. IsName f.name) fs → AllDifferBy (λ f. f.name) fs → Takes fs id count →
+    CalleeKnown fs id count
 callee_known fs id count names differ takes =
     let f : Function = takes.0 in
     let s : slice_get fs id.0 ≡ Some f = takes.1 in
@@ -142,7 +150,8 @@ callee_known fs id count names differ takes =
     let n : IsName f.name = every_at (λ f. IsName f.name) fs id.0 f names s in
     let z : 0 + id.0 ≡ id.0 = omega arith in
     let p : first_named 0 (heads_in fs) f.name ≡ Some (callee_in id count) =
-    first_named_at f.name 0 id.0 fs f (function_first fs id f differ s) ∙ (ap (λ k. Some (callee_in (record { 0 = k }) f.params)) z ∙ ap (λ k. Some (callee_in id k)) takes.2) in
+    first_named_at f.name 0 id.0 fs f (function_first fs id f differ s)
+        ∙ (ap (λ k. Some (callee_in (record { 0 = k }) f.params)) z ∙ ap (λ k. Some (callee_in id k)) takes.2) in
     record {
       name = subst IsName (sym t) n;
       short = subst (λ w. nat_lt 32 (length w) ≡ false) (sym t) (name_short f.name n);
@@ -185,7 +194,8 @@ pub record NamesKnown (fs : List Function) (f : Function) : Type 0 where
   pub label : (l : Label) → l.0 < length f.code → LabelKnown f l
   pub callee : (id : FunId) (count : ℕ) → Takes fs id count → CalleeKnown fs id count
 
-operand_known : (fs : List Function) (f : Function) → NamesKnown fs f → (a : Operand) → IsOperandWithin (length f.regs) a → IsOperandWritten a → OperandKnown f a
+operand_known : (fs : List Function) (f : Function) → NamesKnown fs f → (a : Operand) → IsOperandWithin (length f.regs) a → IsOperandWritten a →
+    OperandKnown f a
 operand_known fs f k (operands.Reg r) h w = k.reg r h
 operand_known fs f k (operands.Const z) h w = w
 
@@ -201,14 +211,16 @@ expr_known fs f k (exprs.Rem a b) h w = (operand_known fs f k a h.0 w.0, operand
 expr_known fs f k (exprs.Eq a b) h w = (operand_known fs f k a h.0 w.0, operand_known fs f k b h.1 w.1)
 expr_known fs f k (exprs.Lt a b) h w = (operand_known fs f k a h.0 w.0, operand_known fs f k b h.1 w.1)
 
-pub instr_known : (fs : List Function) (f : Function) → NamesKnown fs f → (i : Instr) → IsInstrFine fs (length f.regs) (length f.code) i → IsInstrWritten i → InstrKnown fs f i
+pub instr_known : (fs : List Function) (f : Function) → NamesKnown fs f → (i : Instr) → IsInstrFine fs (length f.regs) (length f.code) i → IsInstrWritten i →
+    InstrKnown fs f i
 instr_known fs f k (instrs.Nop next) h w = k.label next h
 instr_known fs f k (instrs.Op dest e next) h w = (k.reg dest h.0, expr_known fs f k e h.1 w, k.label next h.2)
 instr_known fs f k (instrs.Cond test then_to else_to) h w = (operand_known fs f k test h.0 w, k.label then_to h.1, k.label else_to h.2)
 instr_known fs f k (instrs.Call dest callee args next) h w =
     let within_all : Every (IsOperandWithin (length f.regs)) args = every_of_all (IsOperandWithin (length f.regs)) args h.2 in
     let written_all : Every IsOperandWritten args = every_of_all IsOperandWritten args w in
-    (k.reg dest h.0, k.callee callee (length args) h.1, every_both (IsOperandWithin (length f.regs)) IsOperandWritten (OperandKnown f) (operand_known fs f k) args within_all written_all, k.label next h.3)
+    (k.reg dest h.0, k.callee callee (length args) h.1,
+        every_both (IsOperandWithin (length f.regs)) IsOperandWritten (OperandKnown f) (operand_known fs f k) args within_all written_all, k.label next h.3)
 instr_known fs f k (instrs.Return value) h w = operand_known fs f k value h w
 instr_known fs f k (instrs.Print value next) h w = (operand_known fs f k value h.0 w, k.label next h.1)
 instr_known fs f k (instrs.Load dest address next) h w = (k.reg dest h.0, operand_known fs f k address h.1 w, k.label next h.2)
@@ -223,21 +235,24 @@ pub record FunctionKnown (fs : List Function) (f : Function) : Type 0 where
   pub fine : IsFunctionFine fs f
   pub lines : Every (λ line. (line.name ≤ 65535) × InstrKnown fs f line.instr) f.code
 
-pub names_known : (fs : List Function) (f : Function) → Every (λ f. IsName f.name) fs → AllDifferBy (λ f. f.name) fs → IsFunctionFine fs f → IsFunctionWritten f → NamesKnown fs f
+pub names_known : (fs : List Function) (f : Function) → Every (λ f. IsName f.name) fs → AllDifferBy (λ f. f.name) fs → IsFunctionFine fs f →
+    IsFunctionWritten f → NamesKnown fs f
 names_known fs f names differ fine written = record {
   reg = λ r h. reg_known f r (every_of_all IsName f.regs written.registers) fine.registers_differ h;
   label = λ l h. label_known f l (every_of_all (λ line. line.name ≤ 65535) f.code fine.small_labels) fine.labels_differ h;
   callee = λ id count takes. callee_known fs id count names differ takes;
 }
 
-pub function_known : (fs : List Function) (f : Function) → Every (λ f. IsName f.name) fs → AllDifferBy (λ f. f.name) fs → IsFunctionFine fs f → IsFunctionWritten f → FunctionKnown fs f
+pub function_known : (fs : List Function) (f : Function) → Every (λ f. IsName f.name) fs → AllDifferBy (λ f. f.name) fs → IsFunctionFine fs f →
+    IsFunctionWritten f → FunctionKnown fs f
 function_known fs f names differ fine written =
     let k : NamesKnown fs f = names_known fs f names differ fine written in
     let Small : Line → Type 0 = λ line. line.name ≤ 65535 in
     let Fine : Line → Type 0 = λ line. IsInstrFine fs (length f.regs) (length f.code) line.instr in
     let Written : Line → Type 0 = λ line. IsInstrWritten line.instr in
     let Known : Line → Type 0 = λ line. InstrKnown fs f line.instr in
-    let instructions : Every Known f.code = every_both Fine Written Known (λ line h w. instr_known fs f k line.instr h w) f.code (every_of_all Fine f.code fine.instructions) (every_of_all Written f.code written.instructions) in
+    let instructions : Every Known f.code = every_both Fine Written Known (λ line h w. instr_known fs f k line.instr h w) f.code
+        (every_of_all Fine f.code fine.instructions) (every_of_all Written f.code written.instructions) in
     record {
       name = written.name;
       registers = every_of_all IsName f.regs written.registers;

@@ -32,7 +32,8 @@ pub record FunKnown (fs : List Function) (id : FunId) (f : Function) : Type 0 wh
   pub found : find (λ g. bytes_eq g.name (function_text fs id)) fs ≡ Some f
   pub place : position (λ g. bytes_eq g.name (function_text fs id)) fs ≡ Some id.0
 
-pub fun_known : (fs : List Function) (id : FunId) (f : Function) → Every (FunctionKnown fs) fs → AllDifferBy (λ f. f.name) fs → slice_get fs id.0 ≡ Some f → FunKnown fs id f
+pub fun_known : (fs : List Function) (id : FunId) (f : Function) → Every (FunctionKnown fs) fs → AllDifferBy (λ f. f.name) fs → slice_get fs id.0 ≡ Some f →
+    FunKnown fs id f
 fun_known fs id f known differ at =
     let t : function_text fs id ≡ f.name = ap name_of at in
     let k : FunctionKnown fs f = every_at (FunctionKnown fs) fs id.0 f known at in
@@ -67,11 +68,13 @@ param_known fs id param f k h =
     let t : reg_in (slice_get fs id.0) param ≡ s.0 = ap (λ (o : Option Function). reg_in o param) k.at ∙ ap text_or_none s.1 in
     let n : IsName s.0 = every_at IsName f.regs param s.0 k.known.registers s.1 in
     let first : IsFirst (λ p. bytes_eq p s.0) param (take f.params f.regs) s.0 =
-    first_in_front (λ p. bytes_eq p s.0) param f.params f.regs s.0 h (first_of_differing (λ (name : List ℕ). name) bytes_eq bytes_eq-Decides param f.regs s.0 fine.registers_differ s.1) in
+    first_in_front (λ p. bytes_eq p s.0) param f.params f.regs s.0 h
+        (first_of_differing (λ (name : List ℕ). name) bytes_eq bytes_eq-Decides param f.regs s.0 fine.registers_differ s.1) in
     record {
       name = subst IsName (sym t) n;
       short = subst (λ w. nat_lt 32 (length w) ≡ false) (sym t) (name_short s.0 n);
-      place = subst (λ w. position (λ p. bytes_eq p w) (take f.params f.regs) ≡ Some param) (sym t) (first_position (λ p. bytes_eq p s.0) param (take f.params f.regs) s.0 first);
+      place = subst (λ w. position (λ p. bytes_eq p w) (take f.params f.regs) ≡ Some param) (sym t)
+          (first_position (λ p. bytes_eq p s.0) param (take f.params f.regs) s.0 first);
     }
 
 -- ---- the numbers of `cond`s
@@ -83,18 +86,23 @@ pub record CondKnown (fs : List Function) (id : FunId) (label : Label) (f : Func
   pub place : position (λ (other : Line). int_eq (pos other.name) (pos (label_in_number (slice_get fs id.0) label))) f.code ≡ Some label.0
   pub is_cond : is_cond line.instr ≡ true
 
-pub cond_known : (fs : List Function) (id : FunId) (label : Label) (f : Function) (line : Line) → FunKnown fs id f → slice_get f.code label.0 ≡ Some line → is_cond line.instr ≡ true → CondKnown fs id label f line
+pub cond_known : (fs : List Function) (id : FunId) (label : Label) (f : Function) (line : Line) → FunKnown fs id f → slice_get f.code label.0 ≡ Some line →
+    is_cond line.instr ≡ true → CondKnown fs id label f line
 cond_known fs id label f line k at is =
     let fine : IsFunctionFine fs f = k.known.fine in
     let n : label_in_number (slice_get fs id.0) label ≡ line.name = ap (λ (o : Option Function). label_in_number o label) k.at ∙ ap number_at at in
     let w : label_in (slice_get fs id.0) label ≡ decimal line.name = ap (λ (o : Option Function). label_in o label) k.at ∙ ap number_text at in
-    let first : IsFirst (λ (other : Line). int_eq (pos other.name) (pos line.name)) label.0 f.code line = line_first f.code label.0 line fine.labels_differ at in
-    let both : (line.name ≤ 65535) × InstrKnown fs f line.instr = every_at (λ (line : Line). (line.name ≤ 65535) × InstrKnown fs f line.instr) f.code label.0 line k.known.lines at in
+    let first : IsFirst (λ (other : Line). int_eq (pos other.name) (pos line.name)) label.0 f.code line = line_first f.code label.0 line fine.labels_differ at
+        in
+    let both : (line.name ≤ 65535) × InstrKnown fs f line.instr = every_at (λ (line : Line). (line.name ≤ 65535) × InstrKnown fs f line.instr) f.code label.0
+        line k.known.lines at in
     record {
       text = w ∙ ap decimal (sym n);
       small = subst (λ m. m ≤ 65535) (sym n) both.0;
-      found = subst (λ m. find (λ (other : Line). int_eq (pos other.name) (pos m)) f.code ≡ Some line) (sym n) (first_found (λ (other : Line). int_eq (pos other.name) (pos line.name)) label.0 f.code line first);
-      place = subst (λ m. position (λ (other : Line). int_eq (pos other.name) (pos m)) f.code ≡ Some label.0) (sym n) (first_position (λ (other : Line). int_eq (pos other.name) (pos line.name)) label.0 f.code line first);
+      found = subst (λ m. find (λ (other : Line). int_eq (pos other.name) (pos m)) f.code ≡ Some line) (sym n)
+          (first_found (λ (other : Line). int_eq (pos other.name) (pos line.name)) label.0 f.code line first);
+      place = subst (λ m. position (λ (other : Line). int_eq (pos other.name) (pos m)) f.code ≡ Some label.0) (sym n)
+          (first_position (λ (other : Line). int_eq (pos other.name) (pos line.name)) label.0 f.code line first);
       is_cond = is;
     }
 
@@ -105,7 +113,8 @@ SetupKnown fs (setups.Guess id param value) = (f : Function) × FunKnown fs id f
 SetupKnown fs (setups.Cold id label edge) = (f : Function) × (line : Line) × FunKnown fs id f × CondKnown fs id label f line
 SetupKnown fs (setups.Warm id level) = (f : Function) × FunKnown fs id f × (1 ≤ level) × (level ≤ 3)
 
-pub setup_known : (fs : List Function) → Every (FunctionKnown fs) fs → AllDifferBy (λ f. f.name) fs → (x : Setup) → FitsSetup fs x → IsSetupWritten x → SetupKnown fs x
+pub setup_known : (fs : List Function) → Every (FunctionKnown fs) fs → AllDifferBy (λ f. f.name) fs → (x : Setup) → FitsSetup fs x → IsSetupWritten x →
+    SetupKnown fs x
 setup_known fs known differ (setups.Guess id param value) h w =
     let k : FunKnown fs id h.0 = fun_known fs id h.0 known differ h.1 in
     (h.0, k, param_known fs id param h.0 k h.2, w)
@@ -125,7 +134,8 @@ pub record CallKnown (fs : List Function) (call : ScriptCall) : Type 0 where
   pub some_turn : 1 ≤ call.limit
   pub few_turns : call.limit ≤ 1000000
 
-pub call_known : (fs : List Function) → Every (FunctionKnown fs) fs → AllDifferBy (λ f. f.name) fs → (call : ScriptCall) → FitsCall fs call → IsCallWritten call → CallKnown fs call
+pub call_known : (fs : List Function) → Every (FunctionKnown fs) fs → AllDifferBy (λ f. f.name) fs → (call : ScriptCall) → FitsCall fs call →
+    IsCallWritten call → CallKnown fs call
 call_known fs known differ call h w =
     let takes : Takes fs call.function (length call.args) = h.takes in
     record {

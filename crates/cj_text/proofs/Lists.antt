@@ -1,5 +1,6 @@
 -- Items one by one, the first that passes a test, and items that differ from the earlier ones.
-use Rattle.std.proofs.Common.{◌≡◌, ◌∙◌, sym, ap, refl, subst, ℕ, zero, suc, ◌+◌, Bool, true, false, cond, List, [], ◌∷◌, ◌++◌, map, arith, append_assoc, append-nil, All}
+use Rattle.std.proofs.Common.{◌≡◌, ◌∙◌, sym, ap, refl, subst, ℕ, zero, suc, ◌+◌, Bool, true, false, cond, List, [], ◌∷◌, ◌++◌, map, arith, append_assoc,
+    append-nil, All}
 use Rattle.std.specs.Prelude.{Option, Some, slice_get, ◌≢◌, ⊤, position}
 use Rattle.std.specs.Bool.{Decides}
 use Rattle.std.specs.List.{list_any, position_from, find}
@@ -80,7 +81,8 @@ refused true d n = absurd (n (d.0 refl))
 refused false d n = refl
 
 -- an item is the first with its key
-pub first_of_differing : {A B : Type 0} (key : A → B) (eq : B → B → Bool) → ((a b : B) → Decides (eq a b) (a ≡ b)) → (n : ℕ) (xs : List A) (x : A) → AllDifferBy key xs → slice_get xs n ≡ Some x → IsFirst (λ y. eq (key y) (key x)) n xs x
+pub first_of_differing : {A B : Type 0} (key : A → B) (eq : B → B → Bool) → ((a b : B) → Decides (eq a b) (a ≡ b)) → (n : ℕ) (xs : List A) (x : A) →
+    AllDifferBy key xs → slice_get xs n ≡ Some x → IsFirst (λ y. eq (key y) (key x)) n xs x
 first_of_differing key eq decides n [] x h s = cc
 first_of_differing key eq decides zero (y ∷ ys) x h s =
     let e : y ≡ x = some_same y x s in (e, (decides (key y) (key x)).1 (ap key e))
@@ -97,27 +99,34 @@ AreNew key eq earlier (x ∷ xs) = (list_any (λ other. eq other (key x)) earlie
 abbrev AreApart : {A B : Type 0} → (A → B) → List B → List A → Type 0
 AreApart key earlier xs = Every (λ e. Every (λ x. e ≢ key x) xs) earlier
 
-none_equal : {A B : Type 0} (key : A → B) (eq : B → B → Bool) → ((a b : B) → Decides (eq a b) (a ≡ b)) → (earlier : List B) (x : A) (xs : List A) → AreApart key earlier (x ∷ xs) → list_any (λ other. eq other (key x)) earlier ≡ false
+none_equal : {A B : Type 0} (key : A → B) (eq : B → B → Bool) → ((a b : B) → Decides (eq a b) (a ≡ b)) → (earlier : List B) (x : A) (xs : List A) →
+    AreApart key earlier (x ∷ xs) → list_any (λ other. eq other (key x)) earlier ≡ false
 none_equal key eq decides [] x xs h = refl
 none_equal key eq decides (e ∷ es) x xs h =
     let f : eq e (key x) ≡ false = refused (eq e (key x)) (decides e (key x)) h.0.0 in
     rw f (none_equal key eq decides es x xs h.1)
 
-apart_more : {A B : Type 0} (key : A → B) (earlier : List B) (x : A) (xs : List A) → AreApart key earlier (x ∷ xs) → Every (λ y. key x ≢ key y) xs → AreApart key (earlier ++ key x ∷ []) xs
+apart_more : {A B : Type 0} (key : A → B) (earlier : List B) (x : A) (xs : List A) → AreApart key earlier (x ∷ xs) → Every (λ y. key x ≢ key y) xs →
+    AreApart key (earlier ++ key x ∷ []) xs
 apart_more key [] x xs h k = (k, tt)
 apart_more key (e ∷ es) x xs h k = (h.0.1, apart_more key es x xs h.1 k)
 
-new_behind : {A B : Type 0} (key : A → B) (eq : B → B → Bool) → ((a b : B) → Decides (eq a b) (a ≡ b)) → (earlier : List B) (xs : List A) → AreApart key earlier xs → AllDifferBy key xs → AreNew key eq earlier xs
+new_behind : {A B : Type 0} (key : A → B) (eq : B → B → Bool) → ((a b : B) → Decides (eq a b) (a ≡ b)) → (earlier : List B) (xs : List A) →
+    AreApart key earlier xs → AllDifferBy key xs → AreNew key eq earlier xs
 new_behind key eq decides earlier [] h k = tt
 new_behind key eq decides earlier (x ∷ xs) h k =
-    (none_equal key eq decides earlier x xs h, new_behind key eq decides (earlier ++ key x ∷ []) xs (apart_more key earlier x xs h (differ_head key x xs k)) (differ_tail key x xs k))
+    (none_equal key eq decides earlier x xs h, new_behind key eq decides (earlier ++ key x ∷ []) xs (apart_more key earlier x xs h (differ_head key x xs k))
+        (differ_tail key x xs k))
 
-pub new_of_differing : {A B : Type 0} (key : A → B) (eq : B → B → Bool) → ((a b : B) → Decides (eq a b) (a ≡ b)) → (xs : List A) → AllDifferBy key xs → AreNew key eq [] xs
+pub new_of_differing : {A B : Type 0} (key : A → B) (eq : B → B → Bool) → ((a b : B) → Decides (eq a b) (a ≡ b)) → (xs : List A) → AllDifferBy key xs →
+    AreNew key eq [] xs
 new_of_differing key eq decides xs h = new_behind key eq decides [] xs tt h
 
 -- the items of a front, and those behind it
-pub new_split : {A B : Type 0} (key : A → B) (eq : B → B → Bool) (earlier : List B) (xs ys : List A) → AreNew key eq earlier (xs ++ ys) → AreNew key eq earlier xs × AreNew key eq (earlier ++ map key xs) ys
+pub new_split : {A B : Type 0} (key : A → B) (eq : B → B → Bool) (earlier : List B) (xs ys : List A) → AreNew key eq earlier (xs ++ ys) →
+    AreNew key eq earlier xs × AreNew key eq (earlier ++ map key xs) ys
 new_split {A} {B} key eq earlier [] ys h = (tt, subst (λ (es : List B). AreNew key eq es ys) (sym (append-nil earlier)) h)
 new_split {A} {B} key eq earlier (x ∷ xs) ys h =
-    let r : AreNew key eq (earlier ++ key x ∷ []) xs × AreNew key eq ((earlier ++ key x ∷ []) ++ map key xs) ys = new_split key eq (earlier ++ key x ∷ []) xs ys h.1 in
+    let r : AreNew key eq (earlier ++ key x ∷ []) xs × AreNew key eq ((earlier ++ key x ∷ []) ++ map key xs) ys = new_split key eq
+        (earlier ++ key x ∷ []) xs ys h.1 in
     ((h.0, r.0), subst (λ (es : List B). AreNew key eq es ys) (append_assoc earlier (key x ∷ []) (map key xs)) r.1)

@@ -23,8 +23,11 @@ use Rattle.cj_grammar.specs.Rules as rule
 use Rattle.cj_grammar.specs.Alternatives.{of_instr, of_binary}
 use Rattle.cj_grammar.specs.Reading.{offends_if, missing}
 use Rattle.cj_reader.specs.Scopes.{Scope, name_place, number_place, scope_of}
-use Rattle.cj_reader.specs.Operands.{is_long, is_line_number, register_offences, register_of, label_offences, label_of, target_offences, target_of, operand_offences, operand_of, binary_of, expr_offences, expr_of}
-use Rattle.cj_reader.specs.Instructions.{arguments_offences, arguments_of, argument_count, count_offences, callee_offences, callee_of, nop_offences, nop_of, op_offences, op_of, cond_offences, cond_of, call_offences, call_of, return_offences, return_of, print_offences, print_of, load_offences, load_of, store_offences, store_of, fail_offences, fail_of, instr_offences, instr_of}
+use Rattle.cj_reader.specs.Operands.{is_long, is_line_number, register_offences, register_of, label_offences, label_of, target_offences, target_of,
+    operand_offences, operand_of, binary_of, expr_offences, expr_of}
+use Rattle.cj_reader.specs.Instructions.{arguments_offences, arguments_of, argument_count, count_offences, callee_offences, callee_of, nop_offences, nop_of,
+    op_offences, op_of, cond_offences, cond_of, call_offences, call_of, return_offences, return_of, print_offences, print_of, load_offences, load_of,
+    store_offences, store_of, fail_offences, fail_of, instr_offences, instr_of}
 use Rattle.cj_printer.specs.Canonical.{reg_text, function_text}
 use Rattle.cj_text.proofs.Chunks.{name_token, number_token, text_token}
 use Rattle.cj_text.proofs.Lists.{Every}
@@ -66,14 +69,17 @@ register_fine fs f l r k =
 register_same : (fs : List Function) (f : Function) (l : ℕ) (r : Reg) → RegKnown f r → register_of (known_scope fs f) (name_token l (reg_text f r)) ≡ r
 register_same fs f l r k = ap (λ (o : Option ℕ). let reg : Reg = record { 0 = unwrap_or o 0 } in reg) k.place
 
-label_fine : (fs : List Function) (f : Function) (l : ℕ) (label : Label) → LabelKnown f label → label_offences (known_scope fs f) (number_token l (pos (label_number f label))) ≡ []
+label_fine : (fs : List Function) (f : Function) (l : ℕ) (label : Label) → LabelKnown f label →
+    label_offences (known_scope fs f) (number_token l (pos (label_number f label))) ≡ []
 label_fine fs f l label k =
     let n : ℕ = label_number f label in
     let t : Lexeme = number_token l (pos n) in
     none (offends_if (not (is_line_number (pos n))) t Range) (missing (number_place (numbers f.code) (pos n)) t NoLabel)
-    (unless (not (is_line_number (pos n))) t Range (not_from_true (is_line_number (pos n)) k.range)) (there (number_place (numbers f.code) (pos n)) label.0 t NoLabel k.place)
+    (unless (not (is_line_number (pos n))) t Range (not_from_true (is_line_number (pos n)) k.range))
+        (there (number_place (numbers f.code) (pos n)) label.0 t NoLabel k.place)
 
-label_same : (fs : List Function) (f : Function) (l : ℕ) (label : Label) → LabelKnown f label → label_of (known_scope fs f) (number_token l (pos (label_number f label))) ≡ label
+label_same : (fs : List Function) (f : Function) (l : ℕ) (label : Label) → LabelKnown f label →
+    label_of (known_scope fs f) (number_token l (pos (label_number f label))) ≡ label
 label_same fs f l label k = ap (λ (o : Option ℕ). let to : Label = record { 0 = unwrap_or o 0 } in to) k.place
 
 target_fine : (fs : List Function) (f : Function) (l : ℕ) (next : Label) → LabelKnown f next → target_offences (known_scope fs f) (target_tree l f next) ≡ []
@@ -96,10 +102,13 @@ unfolding rule.operand operand_tree operand_of
 operand_same fs f l (operands.Reg r) k = ap operands.Reg (register_same fs f l r k)
 operand_same fs f l (operands.Const z) k = refl
 
-two_fine : (fs : List Function) (f : Function) (l : ℕ) (a b : Operand) → OperandKnown f a × OperandKnown f b → operand_offences (known_scope fs f) (operand_tree l f a) ++ operand_offences (known_scope fs f) (operand_tree l f b) ≡ []
-two_fine fs f l a b k = none (operand_offences (known_scope fs f) (operand_tree l f a)) (operand_offences (known_scope fs f) (operand_tree l f b)) (operand_fine fs f l a k.0) (operand_fine fs f l b k.1)
+two_fine : (fs : List Function) (f : Function) (l : ℕ) (a b : Operand) → OperandKnown f a × OperandKnown f b →
+    operand_offences (known_scope fs f) (operand_tree l f a) ++ operand_offences (known_scope fs f) (operand_tree l f b) ≡ []
+two_fine fs f l a b k = none (operand_offences (known_scope fs f) (operand_tree l f a)) (operand_offences (known_scope fs f) (operand_tree l f b))
+    (operand_fine fs f l a k.0) (operand_fine fs f l b k.1)
 
-two_same : (fs : List Function) (f : Function) (l : ℕ) (mark : Operand → Operand → Expr) (a b : Operand) → OperandKnown f a × OperandKnown f b → mark (operand_of (known_scope fs f) (operand_tree l f a)) (operand_of (known_scope fs f) (operand_tree l f b)) ≡ mark a b
+two_same : (fs : List Function) (f : Function) (l : ℕ) (mark : Operand → Operand → Expr) (a b : Operand) → OperandKnown f a × OperandKnown f b →
+    mark (operand_of (known_scope fs f) (operand_tree l f a)) (operand_of (known_scope fs f) (operand_tree l f b)) ≡ mark a b
 two_same fs f l mark a b k = same_two mark (operand_same fs f l a k.0) (operand_same fs f l b k.1)
 
 expr_fine : (fs : List Function) (f : Function) (l : ℕ) (e : Expr) → ExprKnown f e → expr_offences (known_scope fs f) (expr_tree l f e) ≡ []
@@ -133,22 +142,28 @@ expr_same fs f l (exprs.Lt a b) k = two_same fs f l exprs.Lt a b k
 abbrev Next : Type 0
 Next = Leaf (Is terminal.Comma) × Tree rule.operand
 
-more_fine : (fs : List Function) (f : Function) (l : ℕ) (args : List Operand) → Every (OperandKnown f) args → flat_map (λ (t : Next). operand_offences (known_scope fs f) t.1) (map (next_operand l f) args) ≡ []
+more_fine : (fs : List Function) (f : Function) (l : ℕ) (args : List Operand) → Every (OperandKnown f) args →
+    flat_map (λ (t : Next). operand_offences (known_scope fs f) t.1) (map (next_operand l f) args) ≡ []
 more_fine fs f l [] k = refl
 more_fine fs f l (a ∷ args) k =
-    none (operand_offences (known_scope fs f) (operand_tree l f a)) (flat_map (λ (t : Next). operand_offences (known_scope fs f) t.1) (map (next_operand l f) args)) (operand_fine fs f l a k.0) (more_fine fs f l args k.1)
+    none (operand_offences (known_scope fs f) (operand_tree l f a))
+        (flat_map (λ (t : Next). operand_offences (known_scope fs f) t.1) (map (next_operand l f) args)) (operand_fine fs f l a k.0) (more_fine fs f l args k.1)
 
-more_same : (fs : List Function) (f : Function) (l : ℕ) (args : List Operand) → Every (OperandKnown f) args → map (λ (t : Next). operand_of (known_scope fs f) t.1) (map (next_operand l f) args) ≡ args
+more_same : (fs : List Function) (f : Function) (l : ℕ) (args : List Operand) → Every (OperandKnown f) args →
+    map (λ (t : Next). operand_of (known_scope fs f) t.1) (map (next_operand l f) args) ≡ args
 more_same fs f l [] k = refl
 more_same fs f l (a ∷ args) k = same_two (λ (x : Operand) (xs : List Operand). x ∷ xs) (operand_same fs f l a k.0) (more_same fs f l args k.1)
 
-arguments_fine : (fs : List Function) (f : Function) (l : ℕ) (args : List Operand) → Every (OperandKnown f) args → arguments_offences (known_scope fs f) (arguments_tree l f args) ≡ []
+arguments_fine : (fs : List Function) (f : Function) (l : ℕ) (args : List Operand) → Every (OperandKnown f) args →
+    arguments_offences (known_scope fs f) (arguments_tree l f args) ≡ []
 unfolding rule.operands rule.more_operands arguments_tree arguments_offences
 arguments_fine fs f l [] k = refl
 arguments_fine fs f l (a ∷ args) k =
-    none (operand_offences (known_scope fs f) (operand_tree l f a)) (flat_map (λ (t : Next). operand_offences (known_scope fs f) t.1) (map (next_operand l f) args)) (operand_fine fs f l a k.0) (more_fine fs f l args k.1)
+    none (operand_offences (known_scope fs f) (operand_tree l f a))
+        (flat_map (λ (t : Next). operand_offences (known_scope fs f) t.1) (map (next_operand l f) args)) (operand_fine fs f l a k.0) (more_fine fs f l args k.1)
 
-arguments_same : (fs : List Function) (f : Function) (l : ℕ) (args : List Operand) → Every (OperandKnown f) args → arguments_of (known_scope fs f) (arguments_tree l f args) ≡ args
+arguments_same : (fs : List Function) (f : Function) (l : ℕ) (args : List Operand) → Every (OperandKnown f) args →
+    arguments_of (known_scope fs f) (arguments_tree l f args) ≡ args
 unfolding rule.operands rule.more_operands arguments_tree arguments_of
 arguments_same fs f l [] k = refl
 arguments_same fs f l (a ∷ args) k = same_two (λ (x : Operand) (xs : List Operand). x ∷ xs) (operand_same fs f l a k.0) (more_same fs f l args k.1)
@@ -158,20 +173,24 @@ unfolding rule.operands rule.more_operands arguments_tree argument_count
 count_same l f [] = refl
 count_same l f (a ∷ args) = ap (λ n. suc n) (length-map args (next_operand l f))
 
-callee_fine : (fs : List Function) (f : Function) (l : ℕ) (id : FunId) (count : ℕ) → CalleeKnown fs id count → callee_offences (known_scope fs f) (name_token l (function_text fs id)) count ≡ []
+callee_fine : (fs : List Function) (f : Function) (l : ℕ) (id : FunId) (count : ℕ) → CalleeKnown fs id count →
+    callee_offences (known_scope fs f) (name_token l (function_text fs id)) count ≡ []
 callee_fine fs f l id count k =
     let t : Lexeme = name_token l (function_text fs id) in
     none (offends_if (is_long t) t TooMany) (count_offences t count ((known_scope fs f).function_at t.text))
     (unless (is_long t) t TooMany k.short)
     (ap (count_offences t count) k.place ∙ unless (not (count == count)) t Arguments (not_from_true (count == count) (eq-eqb count count refl)))
 
-callee_same : (fs : List Function) (f : Function) (l : ℕ) (id : FunId) (count : ℕ) → CalleeKnown fs id count → callee_of (known_scope fs f) (name_token l (function_text fs id)) ≡ id
+callee_same : (fs : List Function) (f : Function) (l : ℕ) (id : FunId) (count : ℕ) → CalleeKnown fs id count →
+    callee_of (known_scope fs f) (name_token l (function_text fs id)) ≡ id
 callee_same fs f l id count k = rw k.place refl
 
 -- ---- instructions
 
 pub instr_fine : (fs : List Function) (f : Function) (l : ℕ) (i : Instr) → InstrKnown fs f i → instr_offences (known_scope fs f) (instr_tree fs f l i) ≡ []
-unfolding rule.instr rule.nop_instr rule.op_instr rule.cond_instr rule.call_instr rule.return_instr rule.print_instr rule.load_instr rule.store_instr rule.fail_instr instr_tree of_instr instr_offences nop_offences op_offences cond_offences call_offences return_offences print_offences load_offences store_offences fail_offences
+unfolding rule.instr rule.nop_instr rule.op_instr rule.cond_instr rule.call_instr rule.return_instr rule.print_instr rule.load_instr rule.store_instr
+    rule.fail_instr instr_tree of_instr instr_offences nop_offences op_offences cond_offences call_offences return_offences print_offences load_offences
+    store_offences fail_offences
 instr_fine fs f l (instrs.Nop next) k = target_fine fs f l next k
 instr_fine fs f l (instrs.Op dest e next) k =
     none _ _ (register_fine fs f l dest k.0) (none _ _ (expr_fine fs f l e k.1) (target_fine fs f l next k.2))
@@ -190,14 +209,16 @@ instr_fine fs f l (instrs.Store address value next) k =
 instr_fine fs f l (instrs.Fail text) k = unless (nat_lt 64 (length text)) (text_token l text) TooMany (text_parts text k).1
 
 pub instr_same : (fs : List Function) (f : Function) (l : ℕ) (i : Instr) → InstrKnown fs f i → instr_of (known_scope fs f) (instr_tree fs f l i) ≡ i
-unfolding rule.instr rule.nop_instr rule.op_instr rule.cond_instr rule.call_instr rule.return_instr rule.print_instr rule.load_instr rule.store_instr rule.fail_instr instr_tree of_instr instr_of nop_of op_of cond_of call_of return_of print_of load_of store_of fail_of
+unfolding rule.instr rule.nop_instr rule.op_instr rule.cond_instr rule.call_instr rule.return_instr rule.print_instr rule.load_instr rule.store_instr
+    rule.fail_instr instr_tree of_instr instr_of nop_of op_of cond_of call_of return_of print_of load_of store_of fail_of
 instr_same fs f l (instrs.Nop next) k = ap instrs.Nop (target_same fs f l next k)
 instr_same fs f l (instrs.Op dest e next) k =
     same_three instrs.Op (register_same fs f l dest k.0) (expr_same fs f l e k.1) (target_same fs f l next k.2)
 instr_same fs f l (instrs.Cond test then_to else_to) k =
     same_three instrs.Cond (operand_same fs f l test k.0) (target_same fs f l then_to k.1) (label_same fs f l else_to k.2)
 instr_same fs f l (instrs.Call dest callee args next) k =
-    same_four instrs.Call (register_same fs f l dest k.0) (callee_same fs f l callee (length args) k.1) (arguments_same fs f l args k.2) (target_same fs f l next k.3)
+    same_four instrs.Call (register_same fs f l dest k.0) (callee_same fs f l callee (length args) k.1) (arguments_same fs f l args k.2)
+        (target_same fs f l next k.3)
 instr_same fs f l (instrs.Return value) k = ap instrs.Return (operand_same fs f l value k)
 instr_same fs f l (instrs.Print value next) k = same_two instrs.Print (operand_same fs f l value k.0) (target_same fs f l next k.1)
 instr_same fs f l (instrs.Load dest address next) k =

@@ -25,7 +25,9 @@ use Rattle.cj_text.proofs.MeantFunctions.{program_same, program_fine}
 use Rattle.cj_text.proofs.PrintedProgram.{functions_inside}
 use Rattle.cj_text.proofs.Trees.{end_token, fun_end, funs_end, funs_tree}
 
-program_tokens : (f : Function) (more : List Function) → Every (FunctionKnown (f ∷ more)) (f ∷ more) → leaves rule.funs (funs_tree (f ∷ more) f more) ++ end_token (next_line (funs_end (fun_end 1 f) more)) ∷ [] ≡ lexemes_of (pieces_text (functions_pieces (f ∷ more) (f ∷ more)) ++ 10 ∷ [])
+program_tokens : (f : Function) (more : List Function) → Every (FunctionKnown (f ∷ more)) (f ∷ more) →
+    leaves rule.funs (funs_tree (f ∷ more) f more) ++ end_token (next_line (funs_end (fun_end 1 f) more))
+    ∷ [] ≡ lexemes_of (pieces_text (functions_pieces (f ∷ more) (f ∷ more)) ++ 10 ∷ [])
 program_tokens f more k =
     let fs : List Function = f ∷ more in
     let pieces : List Piece = functions_pieces fs fs in
@@ -37,7 +39,8 @@ program_tokens f more k =
     let end : lexed last (10 ∷ []) ≡ end_token (next_line last) ∷ [] = line_feed_again last [] ∙ nothing_left (next_line last) in
     sym (bytes ∙ (read ∙ ap (λ (ts : List Lexeme). tokens ++ ts) end))
 
-functions_again : (fs : List Function) → IsWellFormed (record { functions = fs }) → IsProgramWritten (record { functions = fs }) → SpellsProgram (pieces_text (functions_pieces fs fs) ++ 10 ∷ []) (record { functions = fs })
+functions_again : (fs : List Function) → IsWellFormed (record { functions = fs }) → IsProgramWritten (record { functions = fs }) →
+    SpellsProgram (pieces_text (functions_pieces fs fs) ++ 10 ∷ []) (record { functions = fs })
 functions_again [] well written = let some : 0 < length {A = Function} [] = well.some_function in absurd (omega arith)
 functions_again (f ∷ more) well written =
     let known : Every (FunctionKnown (f ∷ more)) (f ∷ more) = functions_known (f ∷ more) well written in
@@ -59,7 +62,8 @@ pub no_function : (last : Lexeme) → is_terminal End last ≡ true → is_termi
 unfolding front
 no_function last is = fits_apart (Is End) (Is Fun) last refl is
 
-abbrev pub past_program : (bytes : List ℕ) (p : Program) (ts : List Lexeme) (spells : SpellsProgram bytes p) → ts ≡ lexemes_of bytes → GoesPast ts (spells.last ∷ [])
+abbrev pub past_program : (bytes : List ℕ) (p : Program) (ts : List Lexeme) (spells : SpellsProgram bytes p) → ts ≡ lexemes_of bytes →
+    GoesPast ts (spells.last ∷ [])
 past_program bytes p ts spells is = record {
   tree = spells.tree;
   all = spells.tokens ∙ sym is;

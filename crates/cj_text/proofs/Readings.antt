@@ -38,19 +38,27 @@ has_functions ts sentence = laws.has_functions program_offences program_of scrip
 -- ---- what came of the two readers
 
 -- the functions were refused
-pub functions_fail : (ts : List Lexeme) (e : ParseError) → GivesFirst program_offences program_of ts (Err e) [] → (t : Tree input) → leaves input t ≡ ts → Agrees {X = Input} (Err e) (input_offences t) (input_of t)
+pub functions_fail : (ts : List Lexeme) (e : ParseError) → GivesFirst program_offences program_of ts (Err e) [] → (t : Tree input) → leaves input t ≡ ts →
+    Agrees {X = Input} (Err e) (input_offences t) (input_of t)
 unfolding input input_offences input_of
-functions_fail ts e gives (functions, (lines, last)) is = laws.first_fails program_offences program_of script script_offences script_of input_with no_function ts e gives (functions, (lines, last)) is
+functions_fail ts e gives (functions, (lines, last)) is = laws.first_fails program_offences program_of script script_offences script_of input_with no_function
+    ts e gives (functions, (lines, last)) is
 
 -- the functions were read, and then the script was refused
-pub script_fails : (ts us : List Lexeme) (p : Program) (e : ParseError) → GivesFirst program_offences program_of ts (Ok p) us → GivesSecond script (script_offences p) (script_of p) us (Err e) [] → (t : Tree input) → leaves input t ≡ ts → Agrees {X = Input} (Err e) (input_offences t) (input_of t)
+pub script_fails : (ts us : List Lexeme) (p : Program) (e : ParseError) → GivesFirst program_offences program_of ts (Ok p) us →
+    GivesSecond script (script_offences p) (script_of p) us (Err e) [] → (t : Tree input) → leaves input t ≡ ts →
+    Agrees {X = Input} (Err e) (input_offences t) (input_of t)
 unfolding input input_offences input_of
-script_fails ts us p e gives then (functions, (lines, last)) is = laws.second_fails program_offences program_of script script_offences script_of input_with no_function ts us p e gives then (functions, (lines, last)) is
+script_fails ts us p e gives then (functions, (lines, last)) is = laws.second_fails program_offences program_of script script_offences script_of input_with
+    no_function ts us p e gives then (functions, (lines, last)) is
 
 -- both were read
-pub both_read : (ts us left : List Lexeme) (p : Program) (s : Script) → GivesFirst program_offences program_of ts (Ok p) us → GivesSecond script (script_offences p) (script_of p) us (Ok s) left → (t : Tree input) → leaves input t ≡ ts → Agrees (Ok (input_with p s)) (input_offences t) (input_of t)
+pub both_read : (ts us left : List Lexeme) (p : Program) (s : Script) → GivesFirst program_offences program_of ts (Ok p) us →
+    GivesSecond script (script_offences p) (script_of p) us (Ok s) left → (t : Tree input) → leaves input t ≡ ts →
+    Agrees (Ok (input_with p s)) (input_offences t) (input_of t)
 unfolding input input_offences input_of
-both_read ts us left p s gives then (functions, (lines, last)) is = laws.both_read program_offences program_of script script_offences script_of input_with no_function ts us left p s gives then (functions, (lines, last)) is
+both_read ts us left p s gives then (functions, (lines, last)) is = laws.both_read program_offences program_of script script_offences script_of input_with
+    no_function ts us left p s gives then (functions, (lines, last)) is
 
 -- ---- from trees to inputs
 
@@ -64,7 +72,8 @@ pub offended : (bytes : List ℕ) (e : ParseError) → IsSentence input (lexemes
 offended bytes NoMemory sentence agrees = tt
 offended bytes (Refused r) sentence agrees = laws.offended input input_offences input_of (lexemes_of bytes) r sentence agrees
 
-pub only_meant : (bytes : List ℕ) (result : Result Input ParseError) → IsSentence input (lexemes_of bytes) → AgreesWithTrees bytes result → IsOnlyReading bytes result
+pub only_meant : (bytes : List ℕ) (result : Result Input ParseError) → IsSentence input (lexemes_of bytes) → AgreesWithTrees bytes result →
+    IsOnlyReading bytes result
 only_meant bytes result sentence agrees = laws.only_meant input input_offences input_of (lexemes_of bytes) result sentence agrees
 
 pub only_first : (bytes : List ℕ) (r : refusal.Refused) → IsFirstOffence input (lexemes_of bytes) r → IsOnlyReading bytes (Err (Refused r))

@@ -1,5 +1,6 @@
 -- The token that stands next.
-use Rattle.std.proofs.Common.{◌≡◌, ℕ, zero, suc, ◌+◌, ◌-◌, ◌<◌, ◌≤◌, Bool, true, false, cond, List, [], ◌∷◌, length, take, drop, get_or, refl, ap, sym, ◌∙◌, arith, length-drop, drop-drop}
+use Rattle.std.proofs.Common.{◌≡◌, ℕ, zero, suc, ◌+◌, ◌-◌, ◌<◌, ◌≤◌, Bool, true, false, cond, List, [], ◌∷◌, length, take, drop, get_or, refl, ap, sym, ◌∙◌,
+    arith, length-drop, drop-drop}
 use Rattle.std.proofs.lemmas.Bool.Decides.{nat_tests}
 use Rattle.std.proofs.lemmas.Bool.{eqb-true, and_parts}
 use Rattle.std.proofs.lemmas.List.{take_rest, length-take}
@@ -20,7 +21,8 @@ use Rattle.cj_ir.proofs.Truths.{not_or}
 
 -- ---- what is no end, no name and no text
 
-marks_or_numbers : (k : ℕ) (b : ℕ) (bs : List ℕ) → is_letter b ≡ false → is_quote b ≡ false → is_other k Number ≡ true → is_other k BadNumber ≡ true → is_other k (mark_terminal (b ∷ bs)) ≡ true → is_other k (terminal_of (b ∷ bs)) ≡ true
+marks_or_numbers : (k : ℕ) (b : ℕ) (bs : List ℕ) → is_letter b ≡ false → is_quote b ≡ false → is_other k Number ≡ true → is_other k BadNumber ≡ true →
+    is_other k (mark_terminal (b ∷ bs)) ≡ true → is_other k (terminal_of (b ∷ bs)) ≡ true
 unfolding terminal_of
 marks_or_numbers k b bs l q n o m = rw (l, q) (go (begins_number b bs) (fits_i64 (b ∷ bs)) m)
   where
@@ -31,13 +33,16 @@ marks_or_numbers k b bs l q n o m = rw (l, q) (go (begins_number b bs) (fits_i64
 
 pub not_end : (b : ℕ) (bs : List ℕ) → nat_eq (number_of (terminal_of (b ∷ bs))) 0 ≡ false
 unfolding terminal_of keyword_table mark_table
-not_end b bs = go (is_letter b) (begins_number b bs) (fits_i64 (b ∷ bs)) (is_quote b) (length bs == 0) (word_other 0 (b ∷ bs) refl refl) (mark_other 0 (b ∷ bs) refl refl)
+not_end b bs = go (is_letter b) (begins_number b bs) (fits_i64 (b ∷ bs)) (is_quote b) (length bs == 0) (word_other 0 (b ∷ bs) refl refl)
+    (mark_other 0 (b ∷ bs) refl refl)
   where
     flip : (a : Bool) → not a ≡ true → a ≡ false
     flip true h = cc
     flip false h = refl
 
-    go : (c n f q e : Bool) → is_other 0 (word_terminal (b ∷ bs)) ≡ true → is_other 0 (mark_terminal (b ∷ bs)) ≡ true → nat_eq (number_of (cond c (word_terminal (b ∷ bs)) (cond n (cond f Number BadNumber) (cond q (cond e BadCharacter Text) (mark_terminal (b ∷ bs)))))) 0 ≡ false
+    go : (c n f q e : Bool) → is_other 0 (word_terminal (b ∷ bs)) ≡ true → is_other 0 (mark_terminal (b ∷ bs)) ≡ true →
+        nat_eq (number_of (cond c (word_terminal (b ∷ bs)) (cond n (cond f Number BadNumber) (cond q (cond e BadCharacter Text) (mark_terminal (b ∷ bs)))))) 0
+        ≡ false
     go true n f q e w m = flip _ w
     go false true true q e w m = refl
     go false true false q e w m = refl
@@ -68,7 +73,8 @@ well_word line b bs l a =
     let o : is_other 5 (word_terminal (b ∷ bs)) ≡ true = word_other 5 (b ∷ bs) refl refl in
     rw (t, x) (go (is_other 3 (word_terminal (b ∷ bs))) refl o)
   where
-    go : (v : Bool) → is_other 3 (word_terminal (b ∷ bs)) ≡ v → is_other 5 (word_terminal (b ∷ bs)) ≡ true → ((is_other 3 (word_terminal (b ∷ bs)) || is_free_word (b ∷ bs)) && (is_other 5 (word_terminal (b ∷ bs)) || list_all is_text_byte (b ∷ bs))) ≡ true
+    go : (v : Bool) → is_other 3 (word_terminal (b ∷ bs)) ≡ v → is_other 5 (word_terminal (b ∷ bs)) ≡ true →
+        ((is_other 3 (word_terminal (b ∷ bs)) || is_free_word (b ∷ bs)) && (is_other 5 (word_terminal (b ∷ bs)) || list_all is_text_byte (b ∷ bs))) ≡ true
     go true e o = rw (e, o) refl
     go false e o = let k : is_keyword (b ∷ bs) ≡ false = name_is_free (b ∷ bs) e in rw (e, o, l, a, k) refl
 
@@ -85,7 +91,8 @@ begins_some p [] h = cc
 begins_some p (b ∷ bs) h = omega arith
 
 begins_behind : (p : ℕ → Bool) (n : ℕ) (bs : List ℕ) → begins p (drop n bs) ≡ true → suc n ≤ length bs
-begins_behind p n bs h = let l : length (drop n bs) ≡ length bs - n = length-drop n bs in let s : 1 ≤ length (drop n bs) = begins_some p (drop n bs) h in omega arith
+begins_behind p n bs h = let l : length (drop n bs) ≡ length bs - n = length-drop n bs in let s : 1 ≤ length (drop n bs) = begins_some p
+    (drop n bs) h in omega arith
 
 -- the bytes between the quotes of a text
 between : (n : ℕ) (bs : List ℕ) → suc n ≤ length bs → text_of (34 ∷ take (suc n) bs) ≡ take n bs
@@ -132,8 +139,10 @@ unfolding size_of
 size_sized b bs =
     pick bs (is_letter b) _ _ (λ _. sized_run is_letter_or_digit bs) (λ _.
     pick bs (begins_number b bs) _ _ (λ _. sized_run is_ascii_digit bs) (λ _.
-    pick bs (is_minus b && begins is_greater bs) _ _ (λ t. sized_some bs 1 (begins_some is_greater bs (and_parts (is_minus b) (begins is_greater bs) t).1)) (λ _.
-    pick bs (is_quote b && is_closed bs) _ _ (λ t. sized_some bs (suc (prefix_len is_text_byte bs)) (closed_within bs (and_parts (is_quote b) (is_closed bs) t).1)) (λ _.
+    pick bs (is_minus b && begins is_greater bs) _ _ (λ t. sized_some bs 1 (begins_some is_greater bs (and_parts (is_minus b) (begins is_greater bs) t).1))
+        (λ _.
+    pick bs (is_quote b && is_closed bs) _ _
+        (λ t. sized_some bs (suc (prefix_len is_text_byte bs)) (closed_within bs (and_parts (is_quote b) (is_closed bs) t).1)) (λ _.
     sized_some bs 0 (omega arith)))))
 
 pub sized : (b : ℕ) (bs : List ℕ) → (k : ℕ) × (size_of (b ∷ bs) ≡ suc k) × (k ≤ length bs)
@@ -179,7 +188,8 @@ well_scanned line (b ∷ bs) = go (is_letter b) (is_quote b) refl refl
 
 -- ---- what stands next is that token, and what is behind it
 
-pub token_next : (line i b : ℕ) (bs : List ℕ) → is_start b ≡ true → items 0 line i (b ∷ bs) ≡ item_of line i (b ∷ bs) (size_of (b ∷ bs)) ∷ items 0 line (i + size_of (b ∷ bs)) (drop (size_of (b ∷ bs)) (b ∷ bs))
+pub token_next : (line i b : ℕ) (bs : List ℕ) → is_start b ≡ true →
+    items 0 line i (b ∷ bs) ≡ item_of line i (b ∷ bs) (size_of (b ∷ bs)) ∷ items 0 line (i + size_of (b ∷ bs)) (drop (size_of (b ∷ bs)) (b ∷ bs))
 unfolding items
 token_next line i b bs t =
     let p : (is_line_feed b ≡ false) × ((is_blank b || is_hash b) ≡ false) = not_or (is_line_feed b) (is_blank b || is_hash b) t in
@@ -189,7 +199,8 @@ token_next line i b bs t =
     let f : items k.0 line (i + 1) bs ≡ items 0 line (i + 1 + k.0) (drop k.0 bs) = passed k.0 line (i + 1) bs k.2 in
     let e : i + 1 + k.0 ≡ i + suc k.0 = omega arith in
     let d : drop (size_of (b ∷ bs)) (b ∷ bs) ≡ drop k.0 bs = rw k.1 refl in
-    let g : items (size_of (b ∷ bs) - 1) line (i + 1) bs ≡ items 0 line (i + size_of (b ∷ bs)) (drop (size_of (b ∷ bs)) (b ∷ bs)) = rw (m, d, k.1) (f ∙ rw e refl) in
+    let g : items (size_of (b ∷ bs) - 1) line (i + 1) bs ≡ items 0 line (i + size_of (b ∷ bs)) (drop (size_of (b ∷ bs)) (b ∷ bs)) = rw (m, d, k.1)
+        (f ∙ rw e refl) in
     rw (p.0, q.0, q.1) (ap (λ x. item_of line i (b ∷ bs) (size_of (b ∷ bs)) ∷ x) g)
 
 pub token_not_end : (line b : ℕ) (bs : List ℕ) → is_terminal End (lexeme_of line (take (size_of (b ∷ bs)) (b ∷ bs))) ≡ false
@@ -202,7 +213,9 @@ end_next : (line i : ℕ) (bytes : List ℕ) → items 0 line i [] ≡ items_fro
 unfolding items items_from size_of lexeme_of terminal_of
 end_next line i bytes = refl
 
-from_token : (line i b : ℕ) (bs bytes : List ℕ) → drop i bytes ≡ b ∷ bs → items_from bytes (item_of line i (b ∷ bs) (size_of (b ∷ bs))) ≡ item_of line i (b ∷ bs) (size_of (b ∷ bs)) ∷ items 0 line (i + size_of (b ∷ bs)) (drop (size_of (b ∷ bs)) (b ∷ bs))
+from_token : (line i b : ℕ) (bs bytes : List ℕ) → drop i bytes ≡ b ∷ bs →
+    items_from bytes (item_of line i (b ∷ bs) (size_of (b ∷ bs))) ≡ item_of line i (b ∷ bs) (size_of (b ∷ bs))
+    ∷ items 0 line (i + size_of (b ∷ bs)) (drop (size_of (b ∷ bs)) (b ∷ bs))
 unfolding items_from lexeme_of
 from_token line i b bs bytes e =
     let n : is_terminal End (lexeme_of line (take (size_of (b ∷ bs)) (b ∷ bs))) ≡ false = token_not_end line b bs in
@@ -210,11 +223,13 @@ from_token line i b bs bytes e =
     let f : drop (i + size_of (b ∷ bs)) bytes ≡ drop (size_of (b ∷ bs)) (b ∷ bs) = sym d ∙ ap (λ x. drop (size_of (b ∷ bs)) x) e in
     rw (n, f) refl
 
-goes_on : (line i : ℕ) (bytes xs : List ℕ) → ((b : ℕ) (bs : List ℕ) → drop i bytes ≡ b ∷ bs → is_start b ≡ true) → drop i bytes ≡ xs → items 0 line i xs ≡ items_from bytes (item_of line i xs (size_of xs))
+goes_on : (line i : ℕ) (bytes xs : List ℕ) → ((b : ℕ) (bs : List ℕ) → drop i bytes ≡ b ∷ bs → is_start b ≡ true) → drop i bytes ≡ xs →
+    items 0 line i xs ≡ items_from bytes (item_of line i xs (size_of xs))
 goes_on line i bytes [] s e = end_next line i bytes
 goes_on line i bytes (b ∷ bs) s e = token_next line i b bs (s b bs e) ∙ sym (from_token line i b bs bytes e)
 
-first_start : (i : ℕ) (bytes : List ℕ) → (i < length bytes → is_start (get_or bytes i 0) ≡ true) → (b : ℕ) (bs : List ℕ) → drop i bytes ≡ b ∷ bs → is_start b ≡ true
+first_start : (i : ℕ) (bytes : List ℕ) → (i < length bytes → is_start (get_or bytes i 0) ≡ true) → (b : ℕ) (bs : List ℕ) → drop i bytes ≡ b ∷ bs →
+    is_start b ≡ true
 first_start i bytes s b bs e =
     let l : length (drop i bytes) ≡ length bytes - i = length-drop i bytes in
     let m : length (drop i bytes) ≡ suc (length bs) = ap length e in
@@ -225,11 +240,14 @@ first_start i bytes s b bs e =
     rw g at (s h)
 
 -- the token at a place where neither a blank nor a comment stands, and those behind it
-pub found : (line i : ℕ) (bytes : List ℕ) → (i < length bytes → is_start (get_or bytes i 0) ≡ true) → items 0 line i (drop i bytes) ≡ items_from bytes (item_of line i (drop i bytes) (size_of (drop i bytes)))
+pub found : (line i : ℕ) (bytes : List ℕ) → (i < length bytes → is_start (get_or bytes i 0) ≡ true) →
+    items 0 line i (drop i bytes) ≡ items_from bytes (item_of line i (drop i bytes) (size_of (drop i bytes)))
 found line i bytes s = goes_on line i bytes (drop i bytes) (first_start i bytes s) refl
 
 -- the same, where the token was measured and told in a slice
-pub found_in_slice : (line i n : ℕ) (bytes : List ℕ) (t : Lexeme) → (i < length bytes → is_start (get_or bytes i 0) ≡ true) → n ≡ size_of (take (length bytes - i) (drop i bytes)) → t ≡ lexeme_of line (take n (take (length bytes - i) (drop i bytes))) → (items 0 line i (drop i bytes) ≡ items_from bytes (record { lexeme = t; start = i; stop = i + n })) × (is_well t ≡ true)
+pub found_in_slice : (line i n : ℕ) (bytes : List ℕ) (t : Lexeme) → (i < length bytes → is_start (get_or bytes i 0) ≡ true) →
+    n ≡ size_of (take (length bytes - i) (drop i bytes)) → t ≡ lexeme_of line (take n (take (length bytes - i) (drop i bytes))) →
+    (items 0 line i (drop i bytes) ≡ items_from bytes (record { lexeme = t; start = i; stop = i + n })) × (is_well t ≡ true)
 found_in_slice line i n bytes t s e f =
     let r : take (length bytes - i) (drop i bytes) ≡ drop i bytes = take_rest bytes i in
     let m : n ≡ size_of (drop i bytes) = rw r at e in

@@ -20,7 +20,8 @@ run_front p zero bs h = absurd (omega arith)
 run_front p (suc m) [] h = refl
 run_front p (suc m) (b ∷ bs) h = go (p b) (run_front p m bs) h
   where
-    go : (v : Bool) → (prefix_len p bs < m → prefix_len p (take m bs) ≡ prefix_len p bs) → cond v (1 + prefix_len p bs) 0 < suc m → cond v (1 + prefix_len p (take m bs)) 0 ≡ cond v (1 + prefix_len p bs) 0
+    go : (v : Bool) → (prefix_len p bs < m → prefix_len p (take m bs) ≡ prefix_len p bs) → cond v (1 + prefix_len p bs) 0 < suc m →
+        cond v (1 + prefix_len p (take m bs)) 0 ≡ cond v (1 + prefix_len p bs) 0
     go true f w = let i : prefix_len p (take m bs) ≡ prefix_len p bs = f (omega arith) in rw i refl
     go false f w = refl
 
@@ -36,25 +37,30 @@ run_over p zero bs h = refl
 run_over p (suc m) [] h = refl
 run_over p (suc m) (b ∷ bs) h = go (p b) (run_over p m bs) h
   where
-    go : (v : Bool) → (m ≤ prefix_len p bs → begins is_quote (drop (prefix_len p (take m bs)) (take m bs)) ≡ false) → suc m ≤ cond v (1 + prefix_len p bs) 0 → begins is_quote (drop (cond v (1 + prefix_len p (take m bs)) 0) (b ∷ take m bs)) ≡ false
+    go : (v : Bool) → (m ≤ prefix_len p bs → begins is_quote (drop (prefix_len p (take m bs)) (take m bs)) ≡ false) → suc m ≤ cond v (1 + prefix_len p bs) 0 →
+        begins is_quote (drop (cond v (1 + prefix_len p (take m bs)) 0) (b ∷ take m bs)) ≡ false
     go true f w =
         let e : 1 + prefix_len p (take m bs) ≡ suc (prefix_len p (take m bs)) = omega arith in
         rw e (f (omega arith))
     go false f w = absurd (omega arith)
 
-quoted : (m : ℕ) (bs : List ℕ) (v : Bool) → cond (v && is_closed bs) (suc (suc (prefix_len is_text_byte bs))) 1 ≤ m → cond (v && is_closed (take m bs)) (suc (suc (prefix_len is_text_byte (take m bs)))) 1 ≡ cond (v && is_closed bs) (suc (suc (prefix_len is_text_byte bs))) 1
+quoted : (m : ℕ) (bs : List ℕ) (v : Bool) → cond (v && is_closed bs) (suc (suc (prefix_len is_text_byte bs))) 1 ≤ m →
+    cond (v && is_closed (take m bs)) (suc (suc (prefix_len is_text_byte (take m bs)))) 1 ≡ cond (v && is_closed bs) (suc (suc (prefix_len is_text_byte bs))) 1
 quoted m bs false h = refl
 quoted m bs true h = go (nat_lt (prefix_len is_text_byte bs) m) refl
   where
-    over : (c : Bool) → m ≤ prefix_len is_text_byte bs → cond c (suc (suc (prefix_len is_text_byte bs))) 1 ≤ m → 1 ≡ cond c (suc (suc (prefix_len is_text_byte bs))) 1
+    over : (c : Bool) → m ≤ prefix_len is_text_byte bs → cond c (suc (suc (prefix_len is_text_byte bs))) 1 ≤ m →
+        1 ≡ cond c (suc (suc (prefix_len is_text_byte bs))) 1
     over true w h = absurd (omega arith)
     over false w h = refl
 
-    go : (c : Bool) → nat_lt (prefix_len is_text_byte bs) m ≡ c → cond (is_closed (take m bs)) (suc (suc (prefix_len is_text_byte (take m bs)))) 1 ≡ cond (is_closed bs) (suc (suc (prefix_len is_text_byte bs))) 1
+    go : (c : Bool) → nat_lt (prefix_len is_text_byte bs) m ≡ c →
+        cond (is_closed (take m bs)) (suc (suc (prefix_len is_text_byte (take m bs)))) 1 ≡ cond (is_closed bs) (suc (suc (prefix_len is_text_byte bs))) 1
     go true e =
         let l : prefix_len is_text_byte bs < m = grind (arith, nat_tests) in
         let r : prefix_len is_text_byte (take m bs) ≡ prefix_len is_text_byte bs = run_front is_text_byte m bs l in
-        let q : begins is_quote (drop (prefix_len is_text_byte bs) (take m bs)) ≡ begins is_quote (drop (prefix_len is_text_byte bs) bs) = begins_later is_quote (prefix_len is_text_byte bs) m bs l in
+        let q : begins is_quote (drop (prefix_len is_text_byte bs) (take m bs)) ≡ begins is_quote (drop (prefix_len is_text_byte bs) bs) = begins_later
+            is_quote (prefix_len is_text_byte bs) m bs l in
         rw (r, q) refl
     go false e =
         let l : m ≤ prefix_len is_text_byte bs = grind (arith, nat_tests) in

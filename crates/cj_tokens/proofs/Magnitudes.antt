@@ -8,7 +8,8 @@ unfolding value
 capped cap m n [] h = h
 capped cap m n (b ∷ bs) h = capped cap (10 * m + (b - 48)) (10 * n + (b - 48)) bs (omega arith)
 
-pub magnitude_turn : (cap n : ℕ) (bs : List ℕ) (i : ℕ) → i < length bs → min (value n (drop i bs)) cap ≡ min (value (min (10 * n + (get_or bs i 0 - 48)) cap) (drop (i + 1) bs)) cap
+pub magnitude_turn : (cap n : ℕ) (bs : List ℕ) (i : ℕ) → i < length bs →
+    min (value n (drop i bs)) cap ≡ min (value (min (10 * n + (get_or bs i 0 - 48)) cap) (drop (i + 1) bs)) cap
 unfolding value
 magnitude_turn cap n bs i h =
     let m : ℕ = 10 * n + (get_or bs i 0 - 48) in

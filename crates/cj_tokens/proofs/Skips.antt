@@ -1,5 +1,6 @@
 -- Blanks, line feeds and comments.
-use Rattle.std.proofs.Common.{◌≡◌, ℕ, zero, suc, ◌+◌, ◌<◌, ◌≤◌, ◌-◌, Bool, true, false, List, [], ◌∷◌, length, drop, take, get_or, refl, ◌∙◌, arith, add-one, add-zero, drop-cons, drop-drop, length-drop}
+use Rattle.std.proofs.Common.{◌≡◌, ℕ, zero, suc, ◌+◌, ◌<◌, ◌≤◌, ◌-◌, Bool, true, false, List, [], ◌∷◌, length, drop, take, get_or, refl, ◌∙◌, arith, add-one,
+    add-zero, drop-cons, drop-drop, length-drop}
 use Rattle.std.proofs.lemmas.Bool.{eqb-true}
 use Rattle.std.proofs.lemmas.List.{take_rest}
 use Rattle.std.proofs.lemmas.List.Sums.{prefix_len-le-length}
@@ -27,15 +28,20 @@ differs a b h = go (nat_eq a b) refl
 pub next_at : (bytes : List ℕ) (i : ℕ) → i < length bytes → drop i bytes ≡ get_or bytes i 0 ∷ drop (i + 1) bytes
 next_at bytes i h = rw add-one (drop-cons bytes i 0 h)
 
-pub at_break : (line i : ℕ) (bytes : List ℕ) → i < length bytes → get_or bytes i 0 ≡ 10 → items 0 line i (drop i bytes) ≡ items 0 (next_line line) (i + 1) (drop (i + 1) bytes)
+pub at_break : (line i : ℕ) (bytes : List ℕ) → i < length bytes → get_or bytes i 0 ≡ 10 →
+    items 0 line i (drop i bytes) ≡ items 0 (next_line line) (i + 1) (drop (i + 1) bytes)
 unfolding items
 at_break line i bytes h b = let s : drop i bytes ≡ get_or bytes i 0 ∷ drop (i + 1) bytes = next_at bytes i h in rw (s, b) refl
 
-pub at_blank : (line i : ℕ) (bytes : List ℕ) → i < length bytes → (get_or bytes i 0 ≡ 10 → ⊥) → is_blank (get_or bytes i 0) ≡ true → items 0 line i (drop i bytes) ≡ items 0 line (i + 1) (drop (i + 1) bytes)
+pub at_blank : (line i : ℕ) (bytes : List ℕ) → i < length bytes → (get_or bytes i 0 ≡ 10 → ⊥) → is_blank (get_or bytes i 0) ≡ true →
+    items 0 line i (drop i bytes) ≡ items 0 line (i + 1) (drop (i + 1) bytes)
 unfolding items
-at_blank line i bytes h n b = let s : drop i bytes ≡ get_or bytes i 0 ∷ drop (i + 1) bytes = next_at bytes i h in rw (s, differs (get_or bytes i 0) 10 n, b) refl
+at_blank line i bytes h n b = let s : drop i bytes ≡ get_or bytes i 0 ∷ drop (i + 1) bytes = next_at bytes i h in rw (s, differs (get_or bytes i 0) 10 n,
+    b) refl
 
-pub at_comment : (line i : ℕ) (bytes : List ℕ) → i < length bytes → get_or bytes i 0 ≡ 35 → items 0 line i (drop i bytes) ≡ items 0 line (i + (1 + prefix_len is_in_line (drop (i + 1) bytes))) (drop (i + (1 + prefix_len is_in_line (drop (i + 1) bytes))) bytes)
+pub at_comment : (line i : ℕ) (bytes : List ℕ) → i < length bytes → get_or bytes i 0 ≡ 35 →
+    items 0 line i (drop i bytes) ≡ items 0 line (i + (1 + prefix_len is_in_line (drop (i + 1) bytes)))
+    (drop (i + (1 + prefix_len is_in_line (drop (i + 1) bytes))) bytes)
 unfolding items
 at_comment line i bytes h b =
     let rest : List ℕ = drop (i + 1) bytes in
@@ -49,7 +55,9 @@ at_comment line i bytes h b =
     rw (s, b) q
 
 -- the same where the comment is measured in what stands behind its `#`
-pub comment_passed : (line i n : ℕ) (bytes : List ℕ) → i < length bytes → get_or bytes i 0 ≡ 35 → n ≡ prefix_len is_in_line (take (length bytes - (i + 1)) (drop (i + 1) bytes)) → (i + (1 + n) ≤ length bytes) × (items 0 line i (drop i bytes) ≡ items 0 line (i + (1 + n)) (drop (i + (1 + n)) bytes))
+pub comment_passed : (line i n : ℕ) (bytes : List ℕ) → i < length bytes → get_or bytes i 0 ≡ 35 →
+    n ≡ prefix_len is_in_line (take (length bytes - (i + 1)) (drop (i + 1) bytes)) →
+    (i + (1 + n) ≤ length bytes) × (items 0 line i (drop i bytes) ≡ items 0 line (i + (1 + n)) (drop (i + (1 + n)) bytes))
 comment_passed line i n bytes h b e =
     let r : take (length bytes - (i + 1)) (drop (i + 1) bytes) ≡ drop (i + 1) bytes = take_rest bytes (i + 1) in
     let m : n ≡ prefix_len is_in_line (drop (i + 1) bytes) = rw r at e in

@@ -20,12 +20,14 @@ unfolding items_from front behind
 taken_end true bytes t e = refl
 taken_end false bytes t e = rw e refl
 
-pub taken_next : (taken : Bool) (bytes : List ℕ) (t u : Item) → is_terminal End (front (view taken bytes t)) ≡ false → items 0 t.lexeme.line t.stop (drop t.stop bytes) ≡ items_from bytes u → view taken bytes u ≡ behind (view taken bytes t)
+pub taken_next : (taken : Bool) (bytes : List ℕ) (t u : Item) → is_terminal End (front (view taken bytes t)) ≡ false →
+    items 0 t.lexeme.line t.stop (drop t.stop bytes) ≡ items_from bytes u → view taken bytes u ≡ behind (view taken bytes t)
 unfolding items_from front behind
 taken_next true bytes t u e f = cc
 taken_next false bytes t u e f = rw (e, f) refl
 
-pub pass_fit : (taken : Bool) (bytes : List ℕ) (t : Item) (s : Sign) (rest : List Lexeme) → taken ≡ false → fits s (front (view taken bytes t)) ≡ true → rest ≡ behind (view taken bytes t) → pass s (view taken bytes t) ≡ Ok rest
+pub pass_fit : (taken : Bool) (bytes : List ℕ) (t : Item) (s : Sign) (rest : List Lexeme) → taken ≡ false → fits s (front (view taken bytes t)) ≡ true →
+    rest ≡ behind (view taken bytes t) → pass s (view taken bytes t) ≡ Ok rest
 unfolding items_from front behind
 pass_fit true bytes t s rest n e r = cc
 pass_fit false bytes t s rest n e r = rw (e, r) refl
@@ -45,7 +47,8 @@ passed_no_end BadCharacter h = cc
 passed_no_end BadNumber h = cc
 passed_no_end _ h = refl
 
-pub given_passed : (bytes : List ℕ) (t u : Item) → is_passed t.lexeme.terminal ≡ true → items 0 t.lexeme.line t.stop (drop t.stop bytes) ≡ items_from bytes u → items_from bytes u ≡ past_items (items_from bytes t)
+pub given_passed : (bytes : List ℕ) (t u : Item) → is_passed t.lexeme.terminal ≡ true → items 0 t.lexeme.line t.stop (drop t.stop bytes) ≡ items_from bytes u →
+    items_from bytes u ≡ past_items (items_from bytes t)
 unfolding items_from past_items
 given_passed bytes t u p f = let n : is_terminal End t.lexeme ≡ false = passed_no_end t.lexeme.terminal p in rw (p, n, f) refl
 
@@ -62,7 +65,8 @@ lexemes_past bytes t = go (is_passed t.lexeme.terminal) _
     go true ts = refl
     go false ts = refl
 
-pub left_past : (taken : Bool) (bytes : List ℕ) (t u : Item) → items_from bytes u ≡ past_items (items_from bytes t) → view taken bytes u ≡ past_lexemes (view taken bytes t)
+pub left_past : (taken : Bool) (bytes : List ℕ) (t u : Item) → items_from bytes u ≡ past_items (items_from bytes t) →
+    view taken bytes u ≡ past_lexemes (view taken bytes t)
 unfolding past_lexemes
 left_past true bytes t u e = refl
 left_past false bytes t u e = rw e (lexemes_past bytes t)

@@ -20,7 +20,8 @@ Table = List (List ℕ × Terminal)
 abbrev pub lacks : ℕ → Table → Bool
 lacks k table = list_all (λ e. is_other k e.1) table
 
-pub lookup_other : (k : ℕ) (table : Table) (other : Terminal) (t : List ℕ) → lacks k table ≡ true → is_other k other ≡ true → is_other k (lookup table other t) ≡ true
+pub lookup_other : (k : ℕ) (table : Table) (other : Terminal) (t : List ℕ) → lacks k table ≡ true → is_other k other ≡ true →
+    is_other k (lookup table other t) ≡ true
 lookup_other k [] other t l o = o
 lookup_other k (e ∷ es) other t l o =
     let p : (is_other k e.1 ≡ true) × (lacks k es ≡ true) = and_parts (is_other k e.1) (lacks k es) l in
@@ -32,13 +33,15 @@ lookup_other k (e ∷ es) other t l o =
     go false a b = b
 
 -- where another terminal is found, or `other` by its number, the bytes are in the table or they are not
-pub lookup_misses : (k : ℕ) (table : Table) (other : Terminal) (t : List ℕ) → lacks k table ≡ true → is_other k (lookup table other t) ≡ false → list_any (λ e. bytes_eq e.0 t) table ≡ false
+pub lookup_misses : (k : ℕ) (table : Table) (other : Terminal) (t : List ℕ) → lacks k table ≡ true → is_other k (lookup table other t) ≡ false →
+    list_any (λ e. bytes_eq e.0 t) table ≡ false
 lookup_misses k [] other t l f = refl
 lookup_misses k (e ∷ es) other t l f =
     let p : (is_other k e.1 ≡ true) × (lacks k es ≡ true) = and_parts (is_other k e.1) (lacks k es) l in
     go (bytes_eq e.0 t) p.0 (lookup_misses k es other t p.1) f
   where
-    go : (c : Bool) → is_other k e.1 ≡ true → (is_other k (lookup es other t) ≡ false → list_any (λ e. bytes_eq e.0 t) es ≡ false) → is_other k (cond c e.1 (lookup es other t)) ≡ false → (c || list_any (λ e. bytes_eq e.0 t) es) ≡ false
+    go : (c : Bool) → is_other k e.1 ≡ true → (is_other k (lookup es other t) ≡ false → list_any (λ e. bytes_eq e.0 t) es ≡ false) →
+        is_other k (cond c e.1 (lookup es other t)) ≡ false → (c || list_any (λ e. bytes_eq e.0 t) es) ≡ false
     go true a i g = cc
     go false a i g = i g
 
@@ -58,7 +61,8 @@ lookup_none : (table : Table) (other : Terminal) (t : List ℕ) → list_any (λ
 lookup_none [] other t n = refl
 lookup_none (e ∷ es) other t n = go (bytes_eq e.0 t) (lookup_none es other t) n
   where
-    go : (c : Bool) → (list_any (λ e. bytes_eq e.0 t) es ≡ false → lookup es other t ≡ other) → (c || list_any (λ e. bytes_eq e.0 t) es) ≡ false → cond c e.1 (lookup es other t) ≡ other
+    go : (c : Bool) → (list_any (λ e. bytes_eq e.0 t) es ≡ false → lookup es other t ≡ other) → (c || list_any (λ e. bytes_eq e.0 t) es) ≡ false →
+        cond c e.1 (lookup es other t) ≡ other
     go true f m = cc
     go false f m = f m
 
@@ -83,7 +87,8 @@ lookup_by_place at other t n (word ∷ words) = go (bytes_eq word t) (lookup_by_
   where
     go : (c : Bool) →
         lookup (zip words (terminals_from at (n + 1) words)) other t ≡ beside at other (position_from (λ word. bytes_eq word t) (n + 1) words) →
-        cond c (at n) (lookup (zip words (terminals_from at (n + 1) words)) other t) ≡ beside at other (cond c (Some n) (position_from (λ word. bytes_eq word t) (n + 1) words))
+        cond c (at n) (lookup (zip words (terminals_from at (n + 1) words)) other t) ≡ beside at other
+            (cond c (Some n) (position_from (λ word. bytes_eq word t) (n + 1) words))
     go true i = refl
     go false i = i
 

@@ -7,7 +7,10 @@ use Rattle.cj_ir.specs.Texts.{is_letter, keywords}
 use Rattle.cj_tokens.specs.Bytes.{is_minus, is_quote, begins}
 use Rattle.cj_tokens.specs.Lexemes.{Lexeme}
 use Rattle.cj_tokens.specs.declared.terminal.Terminal.{Terminal}
-use Rattle.cj_tokens.specs.declared.terminal.Terminal.TheVariants.{End, BadCharacter, BadNumber, Name, Number, Text, Fun, Nop, Op, Cond, Call, Return, Print, Load, Store, Fail, Neg, Eqz, Calls, Guess, Cold, Then, Else, Warm, Memory, Limit, Events, Begin, Step, Compile, Anchors, Assume, Delay, Const, Inline, When, Never, Keep, OpenParen, CloseParen, OpenBrace, CloseBrace, OpenBracket, CloseBracket, Comma, Semicolon, Colon, Equals, Plus, Minus, Star, Slash, Percent, Less, Arrow}
+use Rattle.cj_tokens.specs.declared.terminal.Terminal.TheVariants.{End, BadCharacter, BadNumber, Name, Number, Text, Fun, Nop, Op, Cond, Call, Return, Print,
+    Load, Store, Fail, Neg, Eqz, Calls, Guess, Cold, Then, Else, Warm, Memory, Limit, Events, Begin, Step, Compile, Anchors, Assume, Delay, Const, Inline,
+    When, Never, Keep, OpenParen, CloseParen, OpenBrace, CloseBrace, OpenBracket, CloseBracket, Comma, Semicolon, Colon, Equals, Plus, Minus, Star, Slash,
+    Percent, Less, Arrow}
 
 -- the terminal beside the bytes in a table; where they are not in it, another
 abbrev pub lookup : List (List ℕ × Terminal) → Terminal → List ℕ → Terminal
@@ -17,7 +20,8 @@ lookup (e ∷ es) other t = cond (bytes_eq e.0 t) e.1 (lookup es other t)
 -- the terminals of the keywords, in the order of their list
 abbrev pub keyword_terminals : List Terminal
 keyword_terminals =
-    Fun ∷ Nop ∷ Op ∷ Cond ∷ Call ∷ Return ∷ Print ∷ Load ∷ Store ∷ Fail ∷ Neg ∷ Eqz ∷ Calls ∷ Guess ∷ Cold ∷ Then ∷ Else ∷ Warm ∷ Memory ∷ Limit ∷ Events ∷ Begin ∷ Step ∷ Compile ∷ Anchors ∷ Assume ∷ Delay ∷ Const ∷ Inline ∷ When ∷ Never ∷ Keep ∷ []
+    Fun ∷ Nop ∷ Op ∷ Cond ∷ Call ∷ Return ∷ Print ∷ Load ∷ Store ∷ Fail ∷ Neg ∷ Eqz ∷ Calls ∷ Guess ∷ Cold ∷ Then ∷ Else ∷ Warm ∷ Memory ∷ Limit ∷ Events
+        ∷ Begin ∷ Step ∷ Compile ∷ Anchors ∷ Assume ∷ Delay ∷ Const ∷ Inline ∷ When ∷ Never ∷ Keep ∷ []
 
 -- the keywords
 unfoldable pub keyword_table : List (List ℕ × Terminal)
@@ -26,7 +30,9 @@ keyword_table = zip keywords keyword_terminals
 -- the marks
 unfoldable pub mark_table : List (List ℕ × Terminal)
 mark_table =
-    (codes "(", OpenParen) ∷ (codes ")", CloseParen) ∷ (codes "{", OpenBrace) ∷ (codes "}", CloseBrace) ∷ (codes "[", OpenBracket) ∷ (codes "]", CloseBracket) ∷ (codes ",", Comma) ∷ (codes ";", Semicolon) ∷ (codes ":", Colon) ∷ (codes "=", Equals) ∷ (codes "+", Plus) ∷ (codes "-", Minus) ∷ (codes "*", Star) ∷ (codes "/", Slash) ∷ (codes "%", Percent) ∷ (codes "<", Less) ∷ (codes "->", Arrow) ∷ []
+    (codes "(", OpenParen) ∷ (codes ")", CloseParen) ∷ (codes "{", OpenBrace) ∷ (codes "}", CloseBrace) ∷ (codes "[", OpenBracket) ∷ (codes "]", CloseBracket)
+        ∷ (codes ",", Comma) ∷ (codes ";", Semicolon) ∷ (codes ":", Colon) ∷ (codes "=", Equals) ∷ (codes "+", Plus) ∷ (codes "-", Minus) ∷ (codes "*", Star)
+        ∷ (codes "/", Slash) ∷ (codes "%", Percent) ∷ (codes "<", Less) ∷ (codes "->", Arrow) ∷ []
 
 -- a word that is no keyword is a NAME
 abbrev pub word_terminal : List ℕ → Terminal

@@ -8,6 +8,8 @@ loop-index-init c =
 
 pub loop-index-preserved : goal.loop-index-preserved
 loop-index-preserved c = (
-  one_function c.loop-index.index c.args.draws.now.state c.loop-index.draws.state c.loop-index.functions c.push_function.new.functions c.loop-index.invariant.0 c.loop-index.invariant.1 c.in_ok-push_function.ensures.more,
-  draws_more 4 c.loop-index.index c.args.draws.now.state c.loop-index.draws.state c.push_function.new.draws.state c.loop-index.invariant.1 c.in_ok-push_function.ensures.next,
+  one_function c.loop-index.index c.args.draws.now.state c.loop-index.draws.state c.loop-index.functions c.push_function.new.functions c.loop-index.invariant.0
+      c.loop-index.invariant.1 c.in_ok-push_function.ensures.more,
+  draws_more 4 c.loop-index.index c.args.draws.now.state c.loop-index.draws.state c.push_function.new.draws.state c.loop-index.invariant.1
+      c.in_ok-push_function.ensures.next,
 )

@@ -8,6 +8,8 @@ loop-place-init c =
 
 pub loop-place-preserved : goal.loop-place-preserved
 loop-place-preserved c = (
-  one_call c.loop-place._place c.args.draws.now.state c.loop-place.draws.state c.loop-place.calls c.push_call.new.calls c.loop-place.invariant.0 c.loop-place.invariant.1 c.in_ok-push_call.ensures.more,
-  draws_more 2 c.loop-place._place c.args.draws.now.state c.loop-place.draws.state c.push_call.new.draws.state c.loop-place.invariant.1 c.in_ok-push_call.ensures.next,
+  one_call c.loop-place._place c.args.draws.now.state c.loop-place.draws.state c.loop-place.calls c.push_call.new.calls c.loop-place.invariant.0
+      c.loop-place.invariant.1 c.in_ok-push_call.ensures.more,
+  draws_more 2 c.loop-place._place c.args.draws.now.state c.loop-place.draws.state c.push_call.new.draws.state c.loop-place.invariant.1
+      c.in_ok-push_call.ensures.next,
 )

@@ -17,7 +17,8 @@ loop-report-preserved c =
     c.from-count.ensures ∙ as_one c.is_returned.result _ found
     in
     let few : c.from-count.result ≤ 1 = at_most_one _ _ one in (
-      returns_turn rs i r c.loop-report.count (c.loop-report.count + c.from-count.result) _ c.loop-report-test.true c.loop-report.invariant.0 (ap (λ n. c.loop-report.count + n) one),
+      returns_turn rs i r c.loop-report.count (c.loop-report.count + c.from-count.result) _ c.loop-report-test.true c.loop-report.invariant.0
+          (ap (λ n. c.loop-report.count + n) one),
       omega (arith, few, c.loop-report.invariant.1),
     )
 

@@ -8,7 +8,8 @@ loop-place-init c = record { written = written_none _ _ _; waiting = refl }
 
 pub loop-place-preserved : goal.loop-place-preserved
 loop-place-preserved c = record {
-  written = written_more _ _ _ _ _ _ _ _ c.loop-place-test.true c.requires.count (ap (λ (s : Stacked). s.top) c.write_pair.ensures) c.loop-place.invariant.written;
+  written = written_more _ _ _ _ _ _ _ _ c.loop-place-test.true c.requires.count (ap (λ (s : Stacked). s.top) c.write_pair.ensures)
+      c.loop-place.invariant.written;
   waiting = ap (λ (s : Stacked). s.waiting) c.write_pair.ensures ∙ c.loop-place.invariant.waiting;
 }
 

@@ -28,4 +28,5 @@ returns-clause-own c =
     let within = inside p c.args.word c.args.self.now.limited c.requires.word in
     let e = c.index.ensures in
     let lt : c.index.result < word_count p = omega arith in
-    belongs_on c.args.self.now c.args.seat.now _ c.index.result (Some c.load.result) c.load.result lt c.requires.own c.load.ensures.0 c.load.ensures.2.0.0 c.load.ensures.2.2
+    belongs_on c.args.self.now c.args.seat.now _ c.index.result (Some c.load.result) c.load.result lt c.requires.own c.load.ensures.0 c.load.ensures.2.0.0
+        c.load.ensures.2.2

@@ -20,4 +20,5 @@ returns-clause-own c =
     let within = inside p c.args.word c.args.self.now.limited c.requires.word in
     let e = c.index.ensures in
     let lt : c.index.result < word_count p = omega arith in
-    belongs_on c.args.self.now c.args.seat.now _ c.index.result (Some c.fetch_max.result) _ lt c.requires.own c.fetch_max.ensures.0 c.fetch_max.ensures.2.0.0 c.fetch_max.ensures.2.1
+    belongs_on c.args.self.now c.args.seat.now _ c.index.result (Some c.fetch_max.result) _ lt c.requires.own c.fetch_max.ensures.0 c.fetch_max.ensures.2.0.0
+        c.fetch_max.ensures.2.1

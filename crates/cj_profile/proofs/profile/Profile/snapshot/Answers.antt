@@ -26,7 +26,8 @@ returns-in_err-edges-clause-loads c =
     let s4 = c.edge_notes.new.seat in
     keeps_on s0 s3 s4
     (keeps_on s0 s2 s3
-    (keeps_on s0 s1 s2 (load_keeps s0 s1 (Calls f) c.load-calls.result c.load-calls.ensures.reads) (load_keeps s1 s2 (Failures f) c.load-fails.result c.load-fails.ensures.reads))
+    (keeps_on s0 s1 s2 (load_keeps s0 s1 (Calls f) c.load-calls.result c.load-calls.ensures.reads)
+        (load_keeps s1 s2 (Failures f) c.load-fails.result c.load-fails.ensures.reads))
     c.param_notes.ensures.loads)
     c.edge_notes.ensures.loads
 
@@ -40,6 +41,7 @@ returns-clause-loads c =
     let s4 = c.edge_notes.new.seat in
     keeps_on s0 s3 s4
     (keeps_on s0 s2 s3
-    (keeps_on s0 s1 s2 (load_keeps s0 s1 (Calls f) c.load-calls.result c.load-calls.ensures.reads) (load_keeps s1 s2 (Failures f) c.load-fails.result c.load-fails.ensures.reads))
+    (keeps_on s0 s1 s2 (load_keeps s0 s1 (Calls f) c.load-calls.result c.load-calls.ensures.reads)
+        (load_keeps s1 s2 (Failures f) c.load-fails.result c.load-fails.ensures.reads))
     c.param_notes.ensures.loads)
     c.edge_notes.ensures.loads

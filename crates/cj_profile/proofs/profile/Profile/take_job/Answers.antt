@@ -13,7 +13,8 @@ returns-in-Some-clause-reads c =
     let n : ℕ = length c.args.self.now.table.shared.key.functions in
     let k : ℕ = c.loop-number.number in
     let part = c.take_level.ensures.reads in
-    let count : length c.items-number-end.result.now ≡ n = ap length c.items-number-end.ensures ∙ (ap length c.args.self.now.shaped ∙ length-map c.args.self.now.table.shared.key.functions shape_of) in
+    let count : length c.items-number-end.result.now ≡ n = ap length c.items-number-end.ensures
+        ∙ (ap length c.args.self.now.shaped ∙ length-map c.args.self.now.table.shared.key.functions shape_of) in
     let lt : k < n = omega arith in (
       i.reads.0 ++ part.0,
       i.reads.2 c.in-Some.answer part.0 (takes_here n k c.in-Some.answer part.0 lt (subst (λ o. TakesLevel (numbered k) o part.0) c.in-Some.is part.1)),
@@ -26,7 +27,8 @@ loop-number-preserved c =
     let n : ℕ = length c.args.self.now.table.shared.key.functions in
     let k : ℕ = c.loop-number.number in
     let part = c.take_level.ensures.reads in
-    let count : length c.items-number-end.result.now ≡ n = ap length c.items-number-end.ensures ∙ (ap length c.args.self.now.shaped ∙ length-map c.args.self.now.table.shared.key.functions shape_of) in
+    let count : length c.items-number-end.result.now ≡ n = ap length c.items-number-end.ensures
+        ∙ (ap length c.args.self.now.shaped ∙ length-map c.args.self.now.table.shared.key.functions shape_of) in
     let lt : k < n = omega arith in
     record {
       own = c.take_level.ensures.own;
@@ -34,7 +36,9 @@ loop-number-preserved c =
       reads = (
         i.reads.0 ++ part.0,
         adds_on c.args.seat.now c.loop-number.seat c.take_level.new.seat i.reads.0 part.0 i.reads.1 part.2,
-        λ answer rest more. subst (TakesJob n 0 answer) (sym (append_assoc i.reads.0 part.0 rest)) (i.reads.2 answer (part.0 ++ rest) (takes_next n k answer part.0 rest lt (subst (λ o. TakesLevel (numbered k) o part.0) c.in_default.is part.1) more)),
+        λ answer rest more. subst (TakesJob n 0 answer) (sym (append_assoc i.reads.0 part.0 rest))
+            (i.reads.2 answer (part.0 ++ rest)
+            (takes_next n k answer part.0 rest lt (subst (λ o. TakesLevel (numbered k) o part.0) c.in_default.is part.1) more)),
       );
     }
 
@@ -43,7 +47,8 @@ returns-clause-reads c =
     let i = c.loop-number.invariant in
     let n : ℕ = length c.args.self.now.table.shared.key.functions in
     let k : ℕ = c.loop-number.number in
-    let count : length c.items-number-end.result.now ≡ n = ap length c.items-number-end.ensures ∙ (ap length c.args.self.now.shaped ∙ length-map c.args.self.now.table.shared.key.functions shape_of) in
+    let count : length c.items-number-end.result.now ≡ n = ap length c.items-number-end.ensures
+        ∙ (ap length c.args.self.now.shaped ∙ length-map c.args.self.now.table.shared.key.functions shape_of) in
     let le : n ≤ k = omega arith in (
       i.reads.0,
       subst (TakesJob n 0 NoneAsked) (append-nil i.reads.0) (i.reads.2 NoneAsked [] (takes_none n k le)),
@@ -56,7 +61,8 @@ returns-in-Some-clause-answer c =
     let n : ℕ = length c.args.self.now.table.shared.key.functions in
     let k : ℕ = c.loop-number.number in
     let part = c.take_level.ensures.reads in
-    let count : length c.items-number-end.result.now ≡ n = ap length c.items-number-end.ensures ∙ (ap length c.args.self.now.shaped ∙ length-map c.args.self.now.table.shared.key.functions shape_of) in
+    let count : length c.items-number-end.result.now ≡ n = ap length c.items-number-end.ensures
+        ∙ (ap length c.args.self.now.shaped ∙ length-map c.args.self.now.table.shared.key.functions shape_of) in
     let lt : k < n = omega arith in
     let one = takes_here n k c.in-Some.answer part.0 lt (subst (λ o. TakesLevel (numbered k) o part.0) c.in-Some.is part.1) in
     answers_of c.args.self.now.table.shared.key n 0 c.in-Some.answer (i.reads.0 ++ part.0) (omega arith) (i.reads.2 c.in-Some.answer part.0 one)

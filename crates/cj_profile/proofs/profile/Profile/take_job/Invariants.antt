@@ -10,5 +10,6 @@ invariant-loop-number l = record {
   own : Belongs l.self l.seat;
   same : IsSame l.fn.seat l.seat;
   reads : (front : List Read) × Adds front l.fn.seat l.seat
-      × ((answer : JobAnswer) (rest : List Read) → TakesJob (length (program_of l.self).functions - l.number) l.number answer rest → TakesJob (length (program_of l.self).functions) 0 answer (front ++ rest));
+      × ((answer : JobAnswer) (rest : List Read) → TakesJob (length (program_of l.self).functions - l.number) l.number answer rest →
+          TakesJob (length (program_of l.self).functions) 0 answer (front ++ rest));
 }

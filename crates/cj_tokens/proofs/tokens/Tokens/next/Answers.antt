@@ -15,7 +15,8 @@ invariant_of-self c =
     record {
       within = c.behind-self.ensures.within;
       well = c.behind-self.ensures.well;
-      token = next_token c.args.self.now.bytes.now t (placed c.behind-self.result) (passed_no_end t.lexeme.terminal p) c.behind-self.ensures.found c.args.self.now.token;
+      token = next_token c.args.self.now.bytes.now t (placed c.behind-self.result) (passed_no_end t.lexeme.terminal p) c.behind-self.ensures.found
+          c.args.self.now.token;
       end = not_taken c.args.self.now.is_past_end (passed_not_taken c.args.self.now.is_past_end t c.args.self.now.end p);
     }
 
@@ -25,11 +26,15 @@ returns-then-is_passed-clause-answer c = c.given-answer.ensures ∙ sym (next_is
 
 pub returns-then-is_passed-clause-stream : goal.returns-then-is_passed-clause-stream
 unfolding stream
-returns-then-is_passed-clause-stream c = given_passed c.args.self.now.bytes.now (placed c.args.self.now.ahead) (placed c.behind-self.result) (sym c.is_passed.ensures ∙ c.if-is_passed.true) c.behind-self.ensures.found
+returns-then-is_passed-clause-stream c = given_passed c.args.self.now.bytes.now (placed c.args.self.now.ahead) (placed c.behind-self.result)
+    (sym c.is_passed.ensures ∙ c.if-is_passed.true) c.behind-self.ensures.found
 
 pub returns-then-is_passed-clause-left : goal.returns-then-is_passed-clause-left
 unfolding left stream
-returns-then-is_passed-clause-left c = left_past c.args.self.now.is_past_end c.args.self.now.bytes.now (placed c.args.self.now.ahead) (placed c.behind-self.result) (given_passed c.args.self.now.bytes.now (placed c.args.self.now.ahead) (placed c.behind-self.result) (sym c.is_passed.ensures ∙ c.if-is_passed.true) c.behind-self.ensures.found)
+returns-then-is_passed-clause-left c = left_past c.args.self.now.is_past_end c.args.self.now.bytes.now (placed c.args.self.now.ahead)
+    (placed c.behind-self.result)
+    (given_passed c.args.self.now.bytes.now (placed c.args.self.now.ahead) (placed c.behind-self.result)
+    (sym c.is_passed.ensures ∙ c.if-is_passed.true) c.behind-self.ensures.found)
 
 pub returns-else-is_passed-clause-answer : goal.returns-else-is_passed-clause-answer
 unfolding stream
@@ -41,7 +46,8 @@ returns-else-is_passed-clause-stream c = given_stays c.args.self.now.bytes.now (
 
 pub returns-else-is_passed-clause-left : goal.returns-else-is_passed-clause-left
 unfolding left stream
-returns-else-is_passed-clause-left c = left_past c.args.self.now.is_past_end c.args.self.now.bytes.now (placed c.args.self.now.ahead) (placed c.args.self.now.ahead) (given_stays c.args.self.now.bytes.now (placed c.args.self.now.ahead) (sym c.is_passed.ensures ∙ c.if-is_passed.false))
+returns-else-is_passed-clause-left c = left_past c.args.self.now.is_past_end c.args.self.now.bytes.now (placed c.args.self.now.ahead)
+    (placed c.args.self.now.ahead) (given_stays c.args.self.now.bytes.now (placed c.args.self.now.ahead) (sym c.is_passed.ensures ∙ c.if-is_passed.false))
 
 pub returns-then-is_passed-clause-end : goal.returns-then-is_passed-clause-end
 returns-then-is_passed-clause-end c = λ h.
