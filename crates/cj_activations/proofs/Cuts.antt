@@ -1,9 +1,9 @@
 -- How the windows over a list of values change with it.
-use Rattle.std.proofs.Common.{◌≡◌, ◌∙◌, sym, ap, refl, subst, ℕ, ◌+◌, ◌-◌, ◌<◌, ◌≤◌, List, [], ◌∷◌, ◌++◌, length, take, drop, reverse, map, Some, None, arith,
-    ℤ}
+use Rattle.std.proofs.Common.{◌≡◌, ◌∙◌, sym, ap, refl, subst, ℕ, ◌+◌, ◌-◌, ◌<◌, ◌≤◌, List, [], ◌∷◌, ◌++◌, length, take, drop, reverse, map, Some, None, arith}
+use Rattle.std.proofs.Common.{ℤ}
 use Rattle.std.specs.Prelude.{slice_get, slice_set}
-use Rattle.std.proofs.lemmas.List.{reverse-append, take-append-drop, take_rest, take_at, drop_at, take-set-le, drop-set-add, length-set, length-drop,
-    length-take-le, length-append}
+use Rattle.std.proofs.lemmas.List.{reverse-append, take-append-drop, take_rest, take_at, drop_at, take-set-le, drop-set-add, length-set, length-drop}
+use Rattle.std.proofs.lemmas.List.{length-take-le, length-append}
 use Rattle.cj_ir.specs.declared.language.Label.{Label}
 use Rattle.cj_ir.specs.declared.language.Reg.{Reg}
 use Rattle.cj_base.proofs.Lists.{none_last, reverse_last}
@@ -16,10 +16,10 @@ use Rattle.cj_activations.specs.declared.windows.Window.{Window}
 use Rattle.cj_activations.specs.declared.windows.Body.{Body}
 use Rattle.cj_activations.specs.declared.windows.Body.TheVariants as body
 use Rattle.cj_activations.specs.Activations.{Active, InBase, InVersion, BaseWaits, Stacked}
-use Rattle.cj_activations.specs.Windows.{active_at, paused_by, paused_in, position_at, position_in, stacked_in, AreTiled, waiting_window, Extends, Pushes,
-    Writes}
-use Rattle.cj_activations.specs.Changes.{active_regs, called, entered, paused_regs, position_of, waits_of, innermost, HasDest, waiting_registers,
-    all_registers, with_label, with_regs, paused, resumed, returned, returned_to, rebuilt}
+use Rattle.cj_activations.specs.Windows.{active_at, paused_by, paused_in, position_at, position_in, stacked_in, AreTiled, waiting_window, Extends, Pushes}
+use Rattle.cj_activations.specs.Windows.{Writes}
+use Rattle.cj_activations.specs.Changes.{active_regs, called, entered, paused_regs, position_of, waits_of, innermost, HasDest, waiting_registers, all_registers}
+use Rattle.cj_activations.specs.Changes.{with_label, with_regs, paused, resumed, returned, returned_to, rebuilt}
 
 -- Activations at a position.
 
@@ -67,8 +67,8 @@ paused_at w (body.Base f) label regs dest next e g = rw e refl
 paused_at w (body.Version f offset) label regs dest next e g = rw (e, g) refl
 
 paused_is : (w : Window) (regs : List ℤ) (dest : Reg) (next : Label)
-    → paused_by (waiting_window w (position_in w) dest next) (position_in (waiting_window w (position_in w) dest next)) regs ≡ paused
-        (active_at (position_in w) regs) dest next
+    → paused_by (waiting_window w (position_in w) dest next) (position_in (waiting_window w (position_in w) dest next)) regs
+    ≡ paused (active_at (position_in w) regs) dest next
 paused_is w regs dest next = paused_at w w.body w.label regs dest next refl refl
 
 start_stays : (w : Window) (p : Position) (dest : Reg) (next : Label) → (waiting_window w p dest next).start ≡ w.start
@@ -182,9 +182,18 @@ unfolding stacked_in paused_in
 called_seen values values' entry top new w p waiting waiting' s dest next at e f g start is =
     let same = window_start top dest next in
     let v = waiting_window top (position_in top) dest next in
-    rw
-    (at, e, f, g, reverse_push waiting v, take_at values entry new.start (sym start), drop_at values entry new.start (sym start),
-        paused_is top (drop v.start values) dest next, same)
+    rw (
+      at,
+      e,
+      f,
+      g,
+      reverse_push waiting v,
+      take_at values entry new.start (sym start),
+      drop_at values entry new.start (sym start),
+      paused_is top
+          (drop v.start values) dest next,
+      same,
+    )
     (ap (λ (x : Stacked). record { top = active_at p entry; waiting = paused x.top dest next ∷ x.waiting }) is)
 
 -- A return.
@@ -214,9 +223,16 @@ unfolding stacked_in paused_in returned returned_to
 returned_seen values values' top w new waiting left s dest next v e same label start f is =
     let cut = rw (e, reverse_push left w) at is in
     let below = take top.start values in
-    rw
-    (f, same, label, start, take-set-le w.start below (w.start + dest.0) v (omega arith), drop-set-add w.start below dest.0 v,
-        resumed_is w w.body w.label (drop w.start below) dest next v)
+    rw (
+      f,
+      same,
+      label,
+      start,
+      take-set-le w.start below (w.start + dest.0) v (omega arith),
+      drop-set-add w.start below dest.0 v,
+      resumed_is w w.body w.label
+          (drop w.start below) dest next v,
+    )
     (ap (λ (x : Stacked). returned x dest next v) cut)
 
 pub none_to_take : (values : List ℤ) (top : Window) (s : Stacked) (dest : Reg) → stacked_in values top (reverse []) ≡ s → HasDest dest s.waiting → ⊥
@@ -269,7 +285,7 @@ pub put_back : (values written : List ℤ) (start : ℕ) → start ≤ length va
     take start written ++ drop start values ≡ values
 put_back values written start within p =
     ap (λ (xs : List ℤ). xs ++ drop start values) (cut_back (take start values) written start p (length-take-le start values within))
-        ∙ take-append-drop start values
+    ∙ take-append-drop start values
 
 -- The first activation.
 

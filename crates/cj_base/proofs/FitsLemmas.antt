@@ -1,6 +1,6 @@
 -- A start fits its program, a turn keeps that, and a configuration that fits takes its turn.
-use Rattle.std.proofs.Common.{◌≡◌, ◌≢◌, ◌∙◌, sym, ap, subst, refl, ◌-◌, ◌<◌, List, [], ◌∷◌, length, reverse, Option, Some, None, Result, Ok, Err, IfOk, OnErr,
-    Bool, true, false, All, ℤ, pos, if◌then◌else◌, arith, length-append, ⊎_elim}
+use Rattle.std.proofs.Common.{◌≡◌, ◌≢◌, ◌∙◌, sym, ap, subst, refl, ◌-◌, ◌<◌, List, [], ◌∷◌, length, reverse, Option, Some, None, Result, Ok, Err, IfOk, OnErr}
+use Rattle.std.proofs.Common.{Bool, true, false, All, ℤ, pos, if◌then◌else◌, arith, length-append, ⊎_elim}
 use Rattle.std.proofs.lemmas.Option.{slice_get_cases}
 use Rattle.std.specs.Prelude.{slice_get, slice_set, ⊤}
 use Rattle.std.specs.Option.{option_and_then, option_map}
@@ -24,9 +24,9 @@ use Rattle.cj_base.specs.declared.machine.Config as code
 use Rattle.cj_base.specs.declared.machine.Turned.{Turned}
 use Rattle.cj_base.specs.declared.machine.Turned.TheVariants.{Ended}
 use Rattle.cj_base.specs.declared.machine.End.TheVariants.{TurnLimit}
-use Rattle.cj_base.specs.Machine.{Stack, Config, config_of, Fault, FailedAt, BadAddress, ZeroDivisor, Effect, On, Calls, Returns, Faults, with_value, cell,
-    with_cell, branch, op_effect, load_effect, store_effect, effect, Outcome, Goes, Ends, Stuck, end_of, entry_regs, entry_frame, waits, resumed, give,
-    turn_by, turn_at, base_turn}
+use Rattle.cj_base.specs.Machine.{Stack, Config, config_of, Fault, FailedAt, BadAddress, ZeroDivisor, Effect, On, Calls, Returns, Faults, with_value, cell}
+use Rattle.cj_base.specs.Machine.{with_cell, branch, op_effect, load_effect, store_effect, effect, Outcome, Goes, Ends, Stuck, end_of, entry_regs, entry_frame}
+use Rattle.cj_base.specs.Machine.{waits, resumed, give, turn_by, turn_at, base_turn}
 use Rattle.cj_base.specs.Turning.{Makes, answer_of, config_after}
 use Rattle.cj_base.specs.Run.{Begun, start_of}
 use Rattle.cj_base.specs.Fits.{IsFrameOf, IsWaitingOf, StackFits, Fits, FitsAfter}
@@ -99,7 +99,7 @@ unfolding effect op_effect load_effect store_effect branch
 effect_leads P fr m (Nop next) all fine = (fine, all)
 effect_leads P fr m (Op dest e next) all fine =
     value_leads P fr.function (expr_value fr.regs e) ZeroDivisor (λ v. On next (slice_set fr.regs dest.0 v) m [])
-        (λ v. (fine.2, length-set fr.regs dest.0 v ∙ all))
+    (λ v. (fine.2, length-set fr.regs dest.0 v ∙ all))
 effect_leads P fr m (Cond test a b) all fine =
     (branch_leads P fr.function (int_eq (operand_value fr.regs test) (pos 0)) b a fine.2 fine.1, all)
 effect_leads P fr m (Call dest f args next) all fine =
@@ -108,10 +108,10 @@ effect_leads P fr m (Return v) all fine = tt
 effect_leads P fr m (Print v next) all fine = (fine.1, all)
 effect_leads P fr m (Load dest a next) all fine =
     value_leads P fr.function (cell m (operand_value fr.regs a)) (BadAddress (operand_value fr.regs a)) (λ v. On next (slice_set fr.regs dest.0 v) m [])
-        (λ v. (fine.2, length-set fr.regs dest.0 v ∙ all))
+    (λ v. (fine.2, length-set fr.regs dest.0 v ∙ all))
 effect_leads P fr m (Store a v next) all fine =
     value_leads P fr.function (cell m (operand_value fr.regs a)) (BadAddress (operand_value fr.regs a))
-        (λ w. On next fr.regs (with_cell m (operand_value fr.regs a) (operand_value fr.regs v)) []) (λ w. (fine.2, all))
+    (λ w. On next fr.regs (with_cell m (operand_value fr.regs a) (operand_value fr.regs v)) []) (λ w. (fine.2, all))
 effect_leads P fr m (Fail text) all fine = tt
 
 -- the entry frame of a function that takes so many arguments

@@ -6,8 +6,8 @@ use Rattle.cj_ir.specs.declared.language.Program.{Program}
 use Rattle.cj_ir.specs.declared.language.Instr.{Instr}
 use Rattle.cj_base.specs.declared.machine.Waiting.{Waiting}
 use Rattle.cj_base.specs.declared.machine.End.TheVariants.{Returned, Failed, Address, Divide, TurnLimit}
-use Rattle.cj_base.specs.Machine.{Stack, over, Fault, FailedAt, BadAddress, ZeroDivisor, Effect, On, Calls, Returns, Faults, effect, Outcome, Goes, Ends,
-    Stuck, end_of, give, turn_by, turn_at, base_turn}
+use Rattle.cj_base.specs.Machine.{Stack, over, Fault, FailedAt, BadAddress, ZeroDivisor, Effect, On, Calls, Returns, Faults, effect, Outcome, Goes, Ends, Stuck}
+use Rattle.cj_base.specs.Machine.{end_of, give, turn_by, turn_at, base_turn}
 use Rattle.cj_base.specs.Same.{Same}
 use Rattle.cj_base.specs.Run.{Begun, start_of, Going, Over, ran, base_run, RunAt, EndStands, IsSilent, SilentAt}
 use Rattle.cj_base.proofs.SameLaws.{same_refl, same_trans, same_over, same_instr, same_turn, SameOutcome}

@@ -1,6 +1,6 @@
 -- The base machine: what an instruction does, and the turn of a stack of frames.
-use Rattle.std.specs.Prelude.{ℕ, ◌-◌, List, [], ◌∷◌, ◌++◌, length, map, reverse, replicate, Option, Some, None, ℤ, pos, negsuc, slice_get, slice_set,
-    if◌then◌else◌}
+use Rattle.std.specs.Prelude.{ℕ, ◌-◌, List, [], ◌∷◌, ◌++◌, length, map, reverse, replicate, Option, Some, None, ℤ, pos, negsuc, slice_get, slice_set}
+use Rattle.std.specs.Prelude.{if◌then◌else◌}
 use Rattle.std.specs.Ordering.{int_eq}
 use Rattle.cj_ir.specs.Values.{operand_value, expr_value}
 use Rattle.cj_ir.specs.declared.language.FunId.{FunId}

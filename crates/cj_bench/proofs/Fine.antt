@@ -14,8 +14,8 @@ use Rattle.cj_ir.specs.declared.script.ScriptCall.{ScriptCall}
 use Rattle.cj_ir.specs.declared.script.Setup.{Setup}
 use Rattle.cj_ir.proofs.WellFormedLemmas.{Grants-program}
 use Rattle.cj_script.specs.Fitting.{FitsSetup, FitsCall, FitsScript}
-use Rattle.cj_bench.specs.Generated.{after, lines_of, eighth_of, function_name, function_of, function_drawn, functions_drawn, call_drawn, calls_drawn,
-    generated_program, generated_script}
+use Rattle.cj_bench.specs.Generated.{after, lines_of, eighth_of, function_name, function_of, function_drawn, functions_drawn, call_drawn, calls_drawn}
+use Rattle.cj_bench.specs.Generated.{generated_program, generated_script}
 
 -- what holds of each number holds of each item
 pub all_made : {X : Type 0} (f : ℕ → X) (P : X → Type 0) (n : ℕ) → ((i : ℕ) → i < n → P (f i)) → All P (map f (range_with_len 0 n))

@@ -1,6 +1,6 @@
 -- One more report in the counts and the sum of a summary.
-use Rattle.std.proofs.Common.{◌≡◌, ◌∙◌, sym, ap, refl, ℕ, ◌+◌, ◌<◌, ◌≤◌, ℤ, pos, ◌+ℤ◌, Bool, true, false, List, [], ◌∷◌, length, drop, get_or, Option, Some,
-    None, arith, FitsSigned, w64, if◌then◌else◌}
+use Rattle.std.proofs.Common.{◌≡◌, ◌∙◌, sym, ap, refl, ℕ, ◌+◌, ◌<◌, ◌≤◌, ℤ, pos, ◌+ℤ◌, Bool, true, false, List, [], ◌∷◌, length, drop, get_or, Option, Some}
+use Rattle.std.proofs.Common.{None, arith, FitsSigned, w64, if◌then◌else◌}
 use Rattle.std.specs.Prelude.{MatchOption, is_some}
 use mir.Val.{bool_byte}
 use Rattle.std.specs.List.{cons_option}

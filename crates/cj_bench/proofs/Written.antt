@@ -1,6 +1,6 @@
 -- Names of a generated program are names, and its constants and arguments are values.
-use Rattle.std.proofs.Common.{◌≡◌, ◌∙◌, refl, subst, zero-add, ℕ, ◌+◌, ◌*◌, ◌%◌, ◌<◌, ◌==◌, ℤ, pos, List, [], ◌∷◌, All, Bool, true, false, if◌then◌else◌,
-    arith, get_or}
+use Rattle.std.proofs.Common.{◌≡◌, ◌∙◌, refl, subst, zero-add, ℕ, ◌+◌, ◌*◌, ◌%◌, ◌<◌, ◌==◌, ℤ, pos, List, [], ◌∷◌, All, Bool, true, false, if◌then◌else◌, arith}
+use Rattle.std.proofs.Common.{get_or}
 use Rattle.std.specs.Fmt.{digits}
 use Rattle.std.specs.List.{range_with_len, list_all, AllByRecursion}
 use Rattle.std.proofs.lemmas.List.Elements.{All-nil, All-cons}
@@ -9,10 +9,10 @@ use Rattle.std.proofs.lemmas.List.Sums.{AllPass-from_list_all}
 use Rattle.cj_ir.specs.Texts.{is_name}
 use Rattle.cj_ir.specs.declared.language.Instr.{Instr}
 use Rattle.cj_ir.specs.declared.language.Line.{Line}
-use Rattle.cj_text.specs.Written.{IsValue, IsOperandWritten, IsInstrWritten, IsFunctionWritten, IsProgramWritten, IsSetupWritten, IsCallWritten,
-    IsScriptWritten}
-use Rattle.cj_bench.specs.Generated.{drawn, after, reg, s, b, lines_of, eighth_of, function_name, register_names, function_of, function_drawn, functions_drawn,
-    call_drawn, calls_drawn, generated_program, generated_script}
+use Rattle.cj_text.specs.Written.{IsValue, IsOperandWritten, IsInstrWritten, IsFunctionWritten, IsProgramWritten, IsSetupWritten, IsCallWritten}
+use Rattle.cj_text.specs.Written.{IsScriptWritten}
+use Rattle.cj_bench.specs.Generated.{drawn, after, reg, s, b, lines_of, eighth_of, function_name, register_names, function_of, function_drawn, functions_drawn}
+use Rattle.cj_bench.specs.Generated.{call_drawn, calls_drawn, generated_program, generated_script}
 use Rattle.cj_bench.proofs.Fine.{all_made}
 
 -- one fact after the other

@@ -16,8 +16,8 @@ prints_text-nil : prints_text [] ≡ []
 unfolding prints_text
 prints_text-nil = refl
 
-texts_from-cons : (p : Program) (stats : Bool) (k : ℕ) (r : Report) (rs : List Report) →
-    texts_from p stats k (r ∷ rs) ≡ report_text p stats k r ++ texts_from p stats (k + 1) rs
+texts_from-cons : (p : Program) (stats : Bool) (k : ℕ) (r : Report) (rs : List Report) → texts_from p stats k (r ∷ rs) ≡ report_text p stats k r
+    ++ texts_from p stats (k + 1) rs
 unfolding texts_from
 texts_from-cons p stats k r rs = refl
 
@@ -32,9 +32,9 @@ prints_turn before now all vs i d h left step =
     let v : ℤ = get_or vs i d in
     let next : drop i vs ≡ v ∷ drop (i + 1) vs = drop_more vs i d h in
     let text : prints_text (drop i vs) ≡ (signed_decimal v ++ codes "\n") ++ prints_text (drop (i + 1) vs) = ap prints_text next
-        ∙ prints_text-cons v (drop (i + 1) vs) in
+    ∙ prints_text-cons v (drop (i + 1) vs) in
     ap (λ t. t ++ prints_text (drop (i + 1) vs)) step ∙ append_assoc before (signed_decimal v ++ codes "\n") (prints_text (drop (i + 1) vs))
-        ∙ ap (λ t. before ++ t) (sym text) ∙ left
+    ∙ ap (λ t. before ++ t) (sym text) ∙ left
 
 pub prints_end : (now all : List ℕ) (vs : List ℤ) (i : ℕ) → length vs ≤ i → now ++ prints_text (drop i vs) ≡ all → now ≡ all
 prints_end now all vs i past left =
@@ -48,10 +48,10 @@ pub texts_turn : (p : Program) (stats : Bool) (before now all : List ℕ) (rs : 
 texts_turn p stats before now all rs i d h left step =
     let r : Report = get_or rs i d in
     let next : drop i rs ≡ r ∷ drop (i + 1) rs = drop_more rs i d h in
-    let text : texts_from p stats (i + 1) (drop i rs) ≡ report_text p stats (i + 1) r ++ texts_from p stats (i + 1 + 1) (drop (i + 1) rs) = ap
-        (texts_from p stats (i + 1)) next ∙ texts_from-cons p stats (i + 1) r (drop (i + 1) rs) in
-    ap (λ t. t ++ texts_from p stats (i + 1 + 1) (drop (i + 1) rs)) step ∙ append_assoc before (report_text p stats (i + 1) r)
-        (texts_from p stats (i + 1 + 1) (drop (i + 1) rs)) ∙ ap (λ t. before ++ t) (sym text) ∙ left
+    let text : texts_from p stats (i + 1) (drop i rs) ≡ report_text p stats (i + 1) r
+    ++ texts_from p stats (i + 1 + 1) (drop (i + 1) rs) = ap (texts_from p stats (i + 1)) next ∙ texts_from-cons p stats (i + 1) r (drop (i + 1) rs) in
+    ap (λ t. t ++ texts_from p stats (i + 1 + 1) (drop (i + 1) rs)) step
+    ∙ append_assoc before (report_text p stats (i + 1) r) (texts_from p stats (i + 1 + 1) (drop (i + 1) rs)) ∙ ap (λ t. before ++ t) (sym text) ∙ left
 
 pub texts_end : (p : Program) (stats : Bool) (now all : List ℕ) (rs : List Report) (i : ℕ) → length rs ≤ i →
     now ++ texts_from p stats (i + 1) (drop i rs) ≡ all → now ≡ all

@@ -34,8 +34,8 @@ tested : {X : Type 0} (test : Bool) (r : Option X) (x : X) → cond test r None 
 tested true r x e = (refl, e)
 tested false r x e = cc
 
-places_reads : (code : Code) (rest : List ℕ) → InCode code →
-    places_at code.function code.regs code.entry.0 (length code.places) (places_words code ++ rest) ≡ Some (code, rest)
+places_reads : (code : Code) (rest : List ℕ) → InCode code → places_at code.function code.regs code.entry.0 (length code.places) (places_words code ++ rest)
+    ≡ Some (code, rest)
 unfolding places_at
 places_reads code rest h =
     let limits = limits_of code.regs (length code.places) in
@@ -101,12 +101,12 @@ code_spells : (ws : List ℕ) (code : Code) (rest : List ℕ) → code_at ws ≡
 unfolding code_at
 code_spells ws code rest e =
     let f = bound (function_at ws)
-        (λ f. at_most_at 128 f.1 >>= λ regs. word_at regs.1 >>= λ entry. at_most_at 512 entry.1 >>= λ labels. places_at f.0 regs.0 entry.0 labels.0 labels.1)
-        (code, rest) e in
+    (λ f. at_most_at 128 f.1 >>= λ regs. word_at regs.1 >>= λ entry. at_most_at 512 entry.1 >>= λ labels. places_at f.0 regs.0 entry.0 labels.0 labels.1)
+    (code, rest) e in
     let regs = bound (at_most_at 128 f.from.1)
-        (λ regs. word_at regs.1 >>= λ entry. at_most_at 512 entry.1 >>= λ labels. places_at f.from.0 regs.0 entry.0 labels.0 labels.1) (code, rest) f.then in
+    (λ regs. word_at regs.1 >>= λ entry. at_most_at 512 entry.1 >>= λ labels. places_at f.from.0 regs.0 entry.0 labels.0 labels.1) (code, rest) f.then in
     let entry = bound (word_at regs.from.1) (λ entry. at_most_at 512 entry.1 >>= λ labels. places_at f.from.0 regs.from.0 entry.0 labels.0 labels.1)
-        (code, rest) regs.then in
+    (code, rest) regs.then in
     let labels = bound (at_most_at 512 entry.from.1) (λ labels. places_at f.from.0 regs.from.0 entry.from.0 labels.0 labels.1) (code, rest) entry.then in
     let h = places_spells f.from.0 regs.from.0 entry.from.0 labels.from.0 labels.from.1 code rest labels.then in
     let sf = function_format.spells ws f.from.0 f.from.1 f.is in
@@ -116,7 +116,7 @@ code_spells ws code rest e =
     let fine = ranged f.from.0 regs.from.0 labels.from.0 code h.function h.regs_are h.count sf.0 sr.0 sl.0 h.entry_within h.places in
     let values = all_second (IsPlaceInRange code.regs (length code.places)) HasPlaceValues code.places h.places in
     let words = headed ws f.from.1 regs.from.1 entry.from.1 labels.from.1 (places_words code ++ rest) f.from.0 regs.from.0 entry.from.0 labels.from.0 code sf.1
-        sr.1 se sl.1 h.spelled h.function h.regs_are h.entry_is h.count in
+    sr.1 se sl.1 h.spelled h.function h.regs_are h.entry_is h.count in
     ((fine, values), words)
 
 pub body_reads : (code : Code) (rest : List ℕ) → InCode code → body_at (body_words code ++ rest) ≡ Some (code, rest)
@@ -152,7 +152,7 @@ decoded_spells ws code e =
     let front = word_from ws len.from.0 len.from.1 len.is in
     let tail : len.from.1 ≡ body_words code = s.1 ∙ append-nil (body_words code) in
     let count : len.from.0 ≡ suc (length (body_words code)) = eqb-true len.from.0 (length ws) t.0 ∙ ap length front
-        ∙ ap (λ (w : List ℕ). suc (length w)) tail in
+    ∙ ap (λ (w : List ℕ). suc (length w)) tail in
     record {
       spelled = front ∙ rw (count, tail) refl;
       few_words = leb-true (length ws) 65536 few.0;
@@ -163,8 +163,8 @@ decoded_spells ws code e =
 decoded_reads : (ws : List ℕ) (code : Code) → Spells ws code → decoded ws ≡ Some code
 unfolding decoded
 decoded_reads ws code h =
-    let few : nat_le (length (spelling code)) 65536 ≡ true = le-leb (length (spelling code)) 65536
-        (subst (λ (w : List ℕ). length w ≤ 65536) h.spelled h.few_words) in
+    let few : nat_le (length (spelling code)) 65536
+    ≡ true = le-leb (length (spelling code)) 65536 (subst (λ (w : List ℕ). length w ≤ 65536) h.spelled h.few_words) in
     let body : body_at (body_words code) ≡ Some (code, []) = rw (append-nil (body_words code)) at (body_reads code [] (h.in_range, h.values)) in
     rw (h.spelled, few, eq-eqb (suc (length (body_words code))) (suc (length (body_words code))) refl, body) refl
 

@@ -41,8 +41,8 @@ apart_to pair [] h = refl
 apart_to pair (other ∷ others) h =
     let P : Pair → Type 0 = λ x. pair.dest ≢ x.dest in
     neither_to (other.dest.0 == pair.dest.0) (has_dest pair.dest.0 others)
-        (λ e. All-head P other others h (sym (same_reg other.dest pair.dest (eqb-true other.dest.0 pair.dest.0 e))))
-        (apart_to pair others (All-tail P other others h))
+    (λ e. All-head P other others h (sym (same_reg other.dest pair.dest (eqb-true other.dest.0 pair.dest.0 e))))
+    (apart_to pair others (All-tail P other others h))
 
 differ_head : (pair : Pair) (pairs : List Pair) → AllDifferBy dest_of (pair ∷ pairs) → All (λ other. pair.dest ≢ other.dest) pairs
 differ_head pair pairs h = λ k d lt. h 0 (suc k) d (omega arith) (omega arith)

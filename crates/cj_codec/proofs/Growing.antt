@@ -6,9 +6,8 @@ use Rattle.cj_codec.specs.declared.reader.ReadError.TheVariants.{NoSpelling, NoM
 use Rattle.cj_spelling.specs.Formats.{Read, Reading, ◌>>=◌, each_at, one_more_at}
 use Rattle.cj_codec.specs.Answers.{Fails}
 
-taken : {X : Type 0} (one : Reading X) (n : ℕ) (r : Read X) (earlier : List X) →
-    (r >>= λ x. each_at one n (earlier ++ x.0 ∷ []) x.1) ≡ (let more : X × List ℕ → Read (List X) = λ x. Some (earlier ++ x.0 ∷ [], x.1) in r >>= more) >>= λ
-    y. each_at one n y.0 y.1
+taken : {X : Type 0} (one : Reading X) (n : ℕ) (r : Read X) (earlier : List X) → (r >>= λ x. each_at one n (earlier ++ x.0 ∷ []) x.1)
+    ≡ (let more : X × List ℕ → Read (List X) = λ x. Some (earlier ++ x.0 ∷ [], x.1) in r >>= more) >>= λ y. each_at one n y.0 y.1
 taken one n None earlier = refl
 taken one n (Some x) earlier = refl
 

@@ -12,12 +12,12 @@ use Rattle.cj_spelling.specs.Spelling.{operand_words, guard_words, counted, poin
 use Rattle.cj_spelling.specs.Ranges.{IsInstrInRange}
 use Rattle.cj_spelling.specs.Values.{HasOperandValue, HasPairValue, HasGuardValue, HasInstrValues}
 use Rattle.cj_spelling.specs.Formats.{made, counted_at, at_most_at}
-use Rattle.cj_codec.specs.Reading.{label_at, operand_at, guard_at, pair_of, pair_at, are_apart, pairs_at, op_at, move_at, cond_at, call_at, print_at, load_at,
-    store_at, fail_at, assume_at, instr_by, instr_at}
-use Rattle.cj_spelling.proofs.Formats.{IsFormat, made_from, only_format, same_format, at_most_format, one_word, two_reads, two_spells, three_reads,
-    three_spells, four_reads, four_spells, counted_format, kind_from, by_kind, nothing_read, kinded}
-use Rattle.cj_codec.proofs.OperandFormats.{function_words, label_words, reg_words, InOperand, function_format, label_format, base_label_format, reg_format,
-    operand_format, expr_format, InGuard, guard_format}
+use Rattle.cj_codec.specs.Reading.{label_at, operand_at, guard_at, pair_of, pair_at, are_apart, pairs_at, op_at, move_at, cond_at, call_at, print_at, load_at}
+use Rattle.cj_codec.specs.Reading.{store_at, fail_at, assume_at, instr_by, instr_at}
+use Rattle.cj_spelling.proofs.Formats.{IsFormat, made_from, only_format, same_format, at_most_format, one_word, two_reads, two_spells, three_reads}
+use Rattle.cj_spelling.proofs.Formats.{three_spells, four_reads, four_spells, counted_format, kind_from, by_kind, nothing_read, kinded}
+use Rattle.cj_codec.proofs.OperandFormats.{function_words, label_words, reg_words, InOperand, function_format, label_format, base_label_format, reg_format}
+use Rattle.cj_codec.proofs.OperandFormats.{operand_format, expr_format, InGuard, guard_format}
 use Rattle.cj_codec.proofs.PointFormats.{all_both, all_first, all_second, few_operands_format, point_format}
 use Rattle.cj_codec.proofs.Differing.{differ_from, differ_to}
 
@@ -88,7 +88,7 @@ instr_reads limits (Cond test then_to else_to) rest h =
     three_reads Cond (operand_format limits) (label_format limits) (label_format limits) test then_to else_to rest (h.0.0, h.1) h.0.1 h.0.2
 instr_reads limits (Call dest f args next) rest h =
     four_reads Call (reg_format limits) function_format (few_operands_format limits 8) (label_format limits) dest f args next rest h.0.0 h.0.1
-        (h.0.2, all_both (IsOperandWithin limits.regs) HasOperandValue args h.0.3 h.1) h.0.4
+    (h.0.2, all_both (IsOperandWithin limits.regs) HasOperandValue args h.0.3 h.1) h.0.4
 instr_reads limits (Return value) rest h = ap (made Return) ((operand_format limits).reads value rest h)
 instr_reads limits (Print value next) rest h =
     two_reads Print (operand_format limits) (label_format limits) value next rest (h.0.0, h.1) h.0.1
@@ -99,7 +99,7 @@ instr_reads limits (Store address value next) rest h =
 instr_reads limits (Fail f label) rest h = two_reads Fail function_format base_label_format f label rest h.0.0 h.0.1
 instr_reads limits (Assume guards back target next) rest h =
     four_reads Assume (few_guards_format limits) (at_most_format 4) (point_format limits) (label_format limits) guards back target next rest
-        (h.0.0, all_both (IsGuardWithin limits.regs) HasGuardValue guards h.0.1 h.1.0) h.0.2 (h.0.3, h.1.1) h.0.4
+    (h.0.0, all_both (IsGuardWithin limits.regs) HasGuardValue guards h.0.1 h.1.0) h.0.2 (h.0.3, h.1.1) h.0.4
 instr_reads limits (Anchor back target next) rest h = elim h.0 [ ]
 
 module _ (limits : Limits) (ws : List ℕ) (kind : ℕ) (more : List ℕ) (instr : VInstr) (rest : List ℕ) (front : ws ≡ kind ∷ more) where
@@ -114,30 +114,32 @@ module _ (limits : Limits) (ws : List ℕ) (kind : ℕ) (more : List ℕ) (instr
   op_spells is e =
       let h = three_spells Op (reg_format limits) (expr_format limits) (label_format limits) more instr rest e in
       kinded (InInstr limits) instr_words 2 ws kind more instr rest (Op h.a h.b h.c) (reg_words h.a ++ (expr_words h.b ++ label_words h.c)) front is h.is
-          ((h.in_a, h.in_b.0, h.in_c), h.in_b.1) h.spelled refl
+      ((h.in_a, h.in_b.0, h.in_c), h.in_b.1) h.spelled refl
 
   move_spells : kind ≡ 3 → move_at limits more ≡ Some (instr, rest) → Spelled limits ws instr rest
   unfolding move_at
   move_spells is e =
       let h = two_spells Move (pairs_format limits) (label_format limits) more instr rest e in
       kinded (InInstr limits) instr_words 3 ws kind more instr rest (Move h.a h.b) (counted pair_words h.a ++ label_words h.b) front is h.is
-          ((h.in_a.0.0, h.in_a.0.1, h.in_b), h.in_a.1) h.spelled refl
+      ((h.in_a.0.0, h.in_a.0.1, h.in_b), h.in_a.1) h.spelled refl
 
   cond_spells : kind ≡ 4 → cond_at limits more ≡ Some (instr, rest) → Spelled limits ws instr rest
   unfolding cond_at
   cond_spells is e =
       let h = three_spells Cond (operand_format limits) (label_format limits) (label_format limits) more instr rest e in
       kinded (InInstr limits) instr_words 4 ws kind more instr rest (Cond h.a h.b h.c) (operand_words h.a ++ (label_words h.b ++ label_words h.c)) front is
-          h.is ((h.in_a.0, h.in_b, h.in_c), h.in_a.1) h.spelled refl
+      h.is ((h.in_a.0, h.in_b, h.in_c), h.in_a.1) h.spelled refl
 
   call_spells : kind ≡ 5 → call_at limits more ≡ Some (instr, rest) → Spelled limits ws instr rest
   unfolding call_at
   call_spells is e =
       let h = four_spells Call (reg_format limits) function_format (few_operands_format limits 8) (label_format limits) more instr rest e in
       kinded (InInstr limits) instr_words 5 ws kind more instr rest (Call h.a h.b h.c h.d)
-          (reg_words h.a ++ (function_words h.b ++ (counted operand_words h.c ++ label_words h.d))) front is h.is
-          ((h.in_a, h.in_b, h.in_c.0, all_first (IsOperandWithin limits.regs) HasOperandValue h.c h.in_c.1, h.in_d),
-          all_second (IsOperandWithin limits.regs) HasOperandValue h.c h.in_c.1) h.spelled refl
+      (reg_words h.a ++ (function_words h.b ++ (counted operand_words h.c ++ label_words h.d))) front is h.is (
+        (h.in_a, h.in_b, h.in_c.0, all_first (IsOperandWithin limits.regs) HasOperandValue h.c h.in_c.1, h.in_d),
+        all_second
+            (IsOperandWithin limits.regs) HasOperandValue h.c h.in_c.1,
+      ) h.spelled refl
 
   return_spells : kind ≡ 6 → made Return (operand_at limits more) ≡ Some (instr, rest) → Spelled limits ws instr rest
   return_spells is e =
@@ -150,37 +152,42 @@ module _ (limits : Limits) (ws : List ℕ) (kind : ℕ) (more : List ℕ) (instr
   print_spells is e =
       let h = two_spells Print (operand_format limits) (label_format limits) more instr rest e in
       kinded (InInstr limits) instr_words 7 ws kind more instr rest (Print h.a h.b) (operand_words h.a ++ label_words h.b) front is h.is
-          ((h.in_a.0, h.in_b), h.in_a.1) h.spelled refl
+      ((h.in_a.0, h.in_b), h.in_a.1) h.spelled refl
 
   load_spells : kind ≡ 8 → load_at limits more ≡ Some (instr, rest) → Spelled limits ws instr rest
   unfolding load_at
   load_spells is e =
       let h = three_spells Load (reg_format limits) (operand_format limits) (label_format limits) more instr rest e in
       kinded (InInstr limits) instr_words 8 ws kind more instr rest (Load h.a h.b h.c) (reg_words h.a ++ (operand_words h.b ++ label_words h.c)) front is h.is
-          ((h.in_a, h.in_b.0, h.in_c), h.in_b.1) h.spelled refl
+      ((h.in_a, h.in_b.0, h.in_c), h.in_b.1) h.spelled refl
 
   store_spells : kind ≡ 9 → store_at limits more ≡ Some (instr, rest) → Spelled limits ws instr rest
   unfolding store_at
   store_spells is e =
       let h = three_spells Store (operand_format limits) (operand_format limits) (label_format limits) more instr rest e in
       kinded (InInstr limits) instr_words 9 ws kind more instr rest (Store h.a h.b h.c) (operand_words h.a ++ (operand_words h.b ++ label_words h.c)) front is
-          h.is ((h.in_a.0, h.in_b.0, h.in_c), (h.in_a.1, h.in_b.1)) h.spelled refl
+      h.is ((h.in_a.0, h.in_b.0, h.in_c), (h.in_a.1, h.in_b.1)) h.spelled refl
 
   fail_spells : kind ≡ 10 → fail_at more ≡ Some (instr, rest) → Spelled limits ws instr rest
   unfolding fail_at
   fail_spells is e =
       let h = two_spells Fail function_format base_label_format more instr rest e in
       kinded (InInstr limits) instr_words 10 ws kind more instr rest (Fail h.a h.b) (function_words h.a ++ label_words h.b) front is h.is
-          ((h.in_a, h.in_b), tt) h.spelled refl
+      ((h.in_a, h.in_b), tt) h.spelled refl
 
   assume_spells : kind ≡ 11 → assume_at limits more ≡ Some (instr, rest) → Spelled limits ws instr rest
   unfolding assume_at
   assume_spells is e =
       let h = four_spells Assume (few_guards_format limits) (at_most_format 4) (point_format limits) (label_format limits) more instr rest e in
-      kinded (InInstr limits) instr_words 11 ws kind more instr rest (Assume h.a h.b h.c h.d)
-          (counted guard_words h.a ++ (one_word h.b ++ (point_words h.c ++ label_words h.d))) front is h.is
-          ((h.in_a.0, all_first (IsGuardWithin limits.regs) HasGuardValue h.a h.in_a.1, h.in_b, h.in_c.0, h.in_d),
-          (all_second (IsGuardWithin limits.regs) HasGuardValue h.a h.in_a.1, h.in_c.1)) h.spelled refl
+      kinded (InInstr limits) instr_words 11 ws kind more instr rest (Assume h.a h.b h.c h.d) (counted guard_words h.a
+      ++ (one_word h.b ++ (point_words h.c ++ label_words h.d))) front is h.is (
+        (h.in_a.0, all_first (IsGuardWithin limits.regs) HasGuardValue h.a h.in_a.1, h.in_b, h.in_c.0, h.in_d),
+        (
+          all_second
+              (IsGuardWithin limits.regs) HasGuardValue h.a h.in_a.1,
+          h.in_c.1,
+        ),
+      ) h.spelled refl
 
 instr_spells : (limits : Limits) (ws : List ℕ) (instr : VInstr) (rest : List ℕ) → instr_at limits ws ≡ Some (instr, rest) → Spelled limits ws instr rest
 unfolding instr_at

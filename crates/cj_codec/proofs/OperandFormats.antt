@@ -18,10 +18,10 @@ use Rattle.cj_codec.specs.declared.reader.Limits.{Limits}
 use Rattle.cj_spelling.specs.Spelling.{operand_words, two_operands, expr_words, guard_words}
 use Rattle.cj_spelling.specs.Values.{IsValue, HasOperandValue, HasExprValues, HasGuardValue}
 use Rattle.cj_spelling.specs.Formats.{made, below_at}
-use Rattle.cj_codec.specs.Reading.{function_of, label_of, reg_of, function_at, label_at, base_label_at, reg_at, base_reg_at, value_at, operand_by, operand_at,
-    operands_at, one_operand, two_operands_at, expr_by, expr_at, guard_by, guard_at}
-use Rattle.cj_spelling.proofs.Formats.{IsFormat, made_format, made_from, below_format, two_reads, two_spells, kind_from, by_kind, nothing_read, kinded,
-    first_same, rest_same}
+use Rattle.cj_codec.specs.Reading.{function_of, label_of, reg_of, function_at, label_at, base_label_at, reg_at, base_reg_at, value_at, operand_by, operand_at}
+use Rattle.cj_codec.specs.Reading.{operands_at, one_operand, two_operands_at, expr_by, expr_at, guard_by, guard_at}
+use Rattle.cj_spelling.proofs.Formats.{IsFormat, made_format, made_from, below_format, two_reads, two_spells, kind_from, by_kind, nothing_read, kinded}
+use Rattle.cj_spelling.proofs.Formats.{first_same, rest_same}
 
 -- ---- single words
 
@@ -164,7 +164,7 @@ both_spells f n ranges begins limits ws kind more expr rest front is e =
     let m = made_from (λ (both : Operand × Operand). f both.0 both.1) (operands_at limits more) expr rest e in
     let s = (operands_format limits).spells more m.from rest m.read in
     kinded (InExpr limits) expr_words n ws kind more expr rest (f m.from.0 m.from.1) (both_words m.from) front is m.is
-        (ranges limits m.from.0 m.from.1 s.0.0 s.0.1) s.1 (begins m.from.0 m.from.1)
+    (ranges limits m.from.0 m.from.1 s.0.0 s.0.1) s.1 (begins m.from.0 m.from.1)
 
 expr_spells : (limits : Limits) (ws : List ℕ) (expr : Expr) (rest : List ℕ) → expr_at limits ws ≡ Some (expr, rest) → SpellsExpr limits ws expr rest
 unfolding expr_at
@@ -204,12 +204,12 @@ guard_spells limits ws guard rest e =
     let k = kind_from (guard_by limits) ws guard rest e in
     let never : k.kind ≡ 0 → Some (Never, k.more) ≡ Some (guard, rest) → SpellsGuard limits ws guard rest = λ is h.
     kinded (InGuard limits) guard_words 0 ws k.kind k.more guard rest Never [] k.is is (first_same Never guard k.more rest h) (tt, tt)
-        (rest_same Never guard k.more rest h) refl in
+    (rest_same Never guard k.more rest h) refl in
     by_kind k.kind 0 _ _ (guard, rest) never
     (by_kind k.kind 1 _ _ (guard, rest) (λ is h.
     let m = two_spells Is (reg_format limits) value_format k.more guard rest h in
     kinded (InGuard limits) guard_words 1 ws k.kind k.more guard rest (Is m.a m.b) (reg_words m.a ++ value_words m.b) k.is is m.is
-        (m.in_a, m.in_b) m.spelled refl)
+    (m.in_a, m.in_b) m.spelled refl)
     (λ h. nothing_read (guard, rest) h)) k.then
 
 pub guard_format : (limits : Limits) → IsFormat (InGuard limits) guard_words (guard_at limits)

@@ -14,8 +14,8 @@ use Rattle.cj_spelling.specs.Ranges.{IsBackInRange, IsPlaceInRange}
 use Rattle.cj_spelling.specs.Values.{IsValue, HasFactValue, HasFactsValues, HasBackValues, HasPlaceValues}
 use Rattle.cj_spelling.specs.Formats.{made}
 use Rattle.cj_codec.specs.Reading.{fact_of, fact_at, rise_from, known_at, facts_by, facts_at, back_of, back_at, place_of, place_at}
-use Rattle.cj_spelling.proofs.Formats.{IsFormat, made_from, only_format, same_format, word_format, at_most_format, two_reads, two_spells, four_reads,
-    four_spells, counted_format, kind_from, by_kind, nothing_read, kinded, first_same, rest_same}
+use Rattle.cj_spelling.proofs.Formats.{IsFormat, made_from, only_format, same_format, word_format, at_most_format, two_reads, two_spells, four_reads}
+use Rattle.cj_spelling.proofs.Formats.{four_spells, counted_format, kind_from, by_kind, nothing_read, kinded, first_same, rest_same}
 use Rattle.cj_codec.proofs.OperandFormats.{reg_format, value_format}
 use Rattle.cj_codec.proofs.PointFormats.{all_both, all_first, all_second, point_format}
 use Rattle.cj_codec.proofs.InstrFormats.{instr_format}
@@ -73,7 +73,7 @@ facts_spells limits ws facts rest e =
     let k = kind_from (facts_by limits) ws facts rest e in
     let unreached : k.kind ≡ 0 → Some (Unreached, k.more) ≡ Some (facts, rest) → InFacts limits facts × (ws ≡ facts_words facts ++ rest) = λ is h.
     kinded (InFacts limits) facts_words 0 ws k.kind k.more facts rest Unreached [] k.is is (first_same Unreached facts k.more rest h) (tt, tt)
-        (rest_same Unreached facts k.more rest h) refl in
+    (rest_same Unreached facts k.more rest h) refl in
     by_kind k.kind 0 _ _ (facts, rest) unreached
     (by_kind k.kind 1 _ _ (facts, rest) (λ is h.
     let m = made_from Known (known_at limits k.more) facts rest h in
@@ -109,12 +109,12 @@ unfolding place_at
 place_format limits = record {
   reads = λ place rest h.
       four_reads place_of (instr_format limits) (point_format limits) (facts_format limits) (counted_format word_format (back_format limits)) place.instr
-          place.point place.facts place.backs rest
+      place.point place.facts place.backs rest
       (h.0.instr, h.1.instr) (h.0.point, h.1.point) (h.0.facts, h.1.facts)
-          (tt, all_both (IsBackInRange limits.regs) HasBackValues place.backs h.0.backs h.1.backs);
+      (tt, all_both (IsBackInRange limits.regs) HasBackValues place.backs h.0.backs h.1.backs);
   spells = λ ws place rest e.
       let h = four_spells place_of (instr_format limits) (point_format limits) (facts_format limits) (counted_format word_format (back_format limits)) ws place
-          rest e in
+      rest e in
       let fine : IsPlaceInRange limits.regs limits.labels (place_of h.a h.b h.c h.d) = record {
         instr = h.in_a.0;
         point = h.in_b.0;

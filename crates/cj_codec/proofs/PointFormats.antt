@@ -43,7 +43,7 @@ unfolding frame_at
 frame_format limits = record {
   reads = λ f rest h.
       four_reads frame_of function_format base_label_format base_reg_format (few_operands_format limits 32) f.function f.label f.dest f.map rest h.0.function
-          h.0.label h.0.dest
+      h.0.label h.0.dest
       (h.0.few_operands, all_both (IsOperandWithin limits.regs) HasOperandValue f.map h.0.operands h.1);
   spells = λ ws f rest e.
       let h = four_spells frame_of function_format base_label_format base_reg_format (few_operands_format limits 32) ws f rest e in

@@ -65,8 +65,8 @@ places_at f n label lines =
     ∙ ap (option_map (numbered_place f n)) (enumerate_at 0 label.0 lines)
     ∙ by_line (slice_get lines label.0)
   where
-    by_line : (o : Option Line) →
-        option_map (numbered_place f n) (option_map (λ x. (0 + label.0, x)) o) ≡ option_map (base_place f n label) (option_map (λ line. line.instr) o)
+    by_line : (o : Option Line) → option_map (numbered_place f n) (option_map (λ x. (0 + label.0, x)) o)
+        ≡ option_map (base_place f n label) (option_map (λ line. line.instr) o)
     by_line None = refl
     by_line (Some line) = let e : 0 + label.0 ≡ label.0 = omega arith in ap (λ i. Some (base_place f n (record { 0 = i }) line.instr)) e
 
@@ -76,9 +76,8 @@ pub base_place_at : (P : Program) (f : FunId) (label : Label) →
 unfolding base_code base_places
 base_place_at P f label = by_function (function_at P f)
   where
-    by_function : (o : Option Function) →
-        slice_get (base_places f (reg_count P f) (lines_of o)) label.0 ≡ option_map (base_place f (reg_count P f) label)
-        (option_map (λ line. line.instr) (option_and_then (λ g. slice_get g.code label.0) o))
+    by_function : (o : Option Function) → slice_get (base_places f (reg_count P f) (lines_of o)) label.0
+        ≡ option_map (base_place f (reg_count P f) label) (option_map (λ line. line.instr) (option_and_then (λ g. slice_get g.code label.0) o))
     by_function None = refl
     by_function (Some g) = places_at f (reg_count P f) label g.code
 

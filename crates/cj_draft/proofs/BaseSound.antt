@@ -17,8 +17,8 @@ use Rattle.cj_ir.specs.declared.language.Program.{Program}
 use Rattle.cj_ir.specs.declared.language.Instr.{Instr}
 use Rattle.cj_ir.specs.declared.language.Instr.TheVariants.{Nop, Op, Cond, Call, Return, Print, Load, Store, Fail}
 use Rattle.cj_base.specs.declared.machine.Frame.{Frame}
-use Rattle.cj_base.specs.Machine.{Stack, Fault, BadAddress, ZeroDivisor, Effect, On, Calls, Returns, Faults, with_value, cell, with_cell, op_effect,
-    load_effect, store_effect, effect, entry_regs, entry_frame, waits, resumed, give, turn_by, base_turn}
+use Rattle.cj_base.specs.Machine.{Stack, Fault, BadAddress, ZeroDivisor, Effect, On, Calls, Returns, Faults, with_value, cell, with_cell, op_effect}
+use Rattle.cj_base.specs.Machine.{load_effect, store_effect, effect, entry_regs, entry_frame, waits, resumed, give, turn_by, base_turn}
 use Rattle.cj_base.specs.Same.{Same}
 use Rattle.cj_base.proofs.SameLaws.{same_refl}
 use Rattle.cj_base.proofs.FitsLemmas.{fine_at, Leads, effect_leads, entry_fits, instr_found, turn_is}
@@ -188,8 +188,8 @@ module _ (P : Program) (formed : IsWellFormed P) (f : FunId) (inside : f.0 < len
         resumes = λ x.
             let regs' : List ℤ = slice_set regs dest.0 x in
             let r = resumes_at next regs' leads.2 (length-set regs dest.0 x ∙ all) in
-            let after : after_call P (alone f l regs) x ≡ alone f next regs' = after_base_call P f l regs (Call dest g c.0 next) next x
-                (alone f next regs') c.1 refl in
+            let after : after_call P (alone f l regs) x
+            ≡ alone f next regs' = after_base_call P f l regs (Call dest g c.0 next) next x (alone f next regs') c.1 refl in
             subst (λ s. Resumes P the_code next regs' (after_call P s x)) e
             (subst (λ s. Resumes P the_code next regs' s) (sym after) r);
       }
@@ -203,7 +203,7 @@ module _ (P : Program) (formed : IsWellFormed P) (f : FunId) (inside : f.0 < len
       let fr : Frame = record { function = f; label = l; regs = regs } in
       subst (SoundEffect P the_code (base_place f (reg_count P f) l i) regs m) (sym (same_effect f l regs m i))
       (effect_sound l i regs m all (effect i fr m) (turn_is P (alone f l regs) m i at) (effect_leads P fr m i all (fine_at P formed f l i at))
-          (effect_calls P fr m i at))
+      (effect_calls P fr m i at))
 
   any_place : (l : Label) (p : Place) → place_at the_code l ≡ Some p → (regs m : List ℤ) → Admits the_code p regs →
       SoundEffect P the_code p regs m (version_effect p.instr regs m)

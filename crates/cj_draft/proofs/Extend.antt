@@ -14,8 +14,8 @@ use Rattle.cj_ir.specs.declared.language.Expr.{Expr}
 use Rattle.cj_ir.specs.declared.language.Expr.TheVariants as expr
 use Rattle.cj_ir.specs.declared.language.Guard.{Guard}
 use Rattle.cj_ir.specs.declared.language.Guard.TheVariants.{Is, Never}
-use Rattle.cj_base.specs.Machine.{Stack, Fault, BadAddress, ZeroDivisor, Effect, On, Calls, Returns, Faults, with_value, cell, with_cell, branch, op_effect,
-    load_effect, store_effect, base_turn}
+use Rattle.cj_base.specs.Machine.{Stack, Fault, BadAddress, ZeroDivisor, Effect, On, Calls, Returns, Faults, with_value, cell, with_cell, branch, op_effect}
+use Rattle.cj_base.specs.Machine.{load_effect, store_effect, base_turn}
 use Rattle.cj_base.specs.Run.{IsSilent}
 use Rattle.cj_base.specs.Same.{Same}
 use Rattle.cj_draft.specs.declared.points.PointFrame.{PointFrame}
@@ -48,7 +48,7 @@ pub operands_left : (a b : List ℤ) (os : List Operand) → All (IsOperandWithi
 operands_left a b [] h = refl
 operands_left a b (o ∷ os) h =
     ap₂ (λ x xs. x ∷ xs) (operand_left a b o (All-head (IsOperandWithin (length a)) o os h))
-        (operands_left a b os (All-tail (IsOperandWithin (length a)) o os h))
+    (operands_left a b os (All-tail (IsOperandWithin (length a)) o os h))
 
 expr_left : (a b : List ℤ) (e : Expr) → IsExprWithin (length a) e → expr_value (a ++ b) e ≡ expr_value a e
 expr_left a b (expr.Copy x) h = ap Some (operand_left a b x h)
@@ -82,7 +82,7 @@ moved_left a b c (p ∷ ps) e ds os =
     let here : p.dest.0 < length c = omega arith in
     ap (λ z. moved (a ++ b) ps z)
     (ap (λ v. slice_set (c ++ b) p.dest.0 v) (operand_left a b p.value (All-head (λ (q : Pair). IsOperandWithin (length a) q.value) p ps os))
-        ∙ set-append_left c b p.dest.0 (operand_value a p.value) here)
+    ∙ set-append_left c b p.dest.0 (operand_value a p.value) here)
     ∙ moved_left a b (slice_set c p.dest.0 (operand_value a p.value)) ps (length-set c p.dest.0 (operand_value a p.value) ∙ e)
     (All-tail (λ (q : Pair). q.dest.0 < length a) p ps ds) (All-tail (λ (q : Pair). IsOperandWithin (length a) q.value) p ps os)
 
@@ -95,7 +95,7 @@ waiting_left P a b [] h = refl
 waiting_left P a b (f ∷ fs) h =
     ap₂ (λ x xs. record { function = f.function; label = f.label; regs = x; dest = f.dest } ∷ xs)
     (operands_left a b f.map (All-head (IsPointFrameFine P (length a)) f fs h).operands)
-        (waiting_left P a b fs (All-tail (IsPointFrameFine P (length a)) f fs h))
+    (waiting_left P a b fs (All-tail (IsPointFrameFine P (length a)) f fs h))
 
 stack_left : (P : Program) (a b : List ℤ) (fs : List PointFrame) → All (IsPointFrameFine P (length a)) fs → stack_of P fs (a ++ b) ≡ stack_of P fs a
 unfolding stack_of top_of frame_regs
@@ -103,7 +103,7 @@ stack_left P a b [] h = refl
 stack_left P a b (f ∷ fs) h =
     ap₂ (λ x ws. record { top = record { function = f.function; label = f.label; regs = x }; waiting = ws })
     (operands_left a b f.map (All-head (IsPointFrameFine P (length a)) f fs h).operands)
-        (waiting_left P a b fs (All-tail (IsPointFrameFine P (length a)) f fs h))
+    (waiting_left P a b fs (All-tail (IsPointFrameFine P (length a)) f fs h))
 
 pub frames_left : (P : Program) (a b : List ℤ) (p : Point) → IsPointFine P (length a) p → frames_of P p (a ++ b) ≡ frames_of P p a
 unfolding frames_of
@@ -135,7 +135,7 @@ effect-extend P labels a b m (Nop n) h = refl
 effect-extend P labels a b m (Op d e n) h =
     ap Plain (ap (λ o. with_value o ZeroDivisor (λ v. On n (slice_set (a ++ b) d.0 v) m [])) (expr_left a b e h.1)
     ∙ value_left b (expr_value a e) ZeroDivisor (λ v. On n (slice_set a d.0 v) m []) (λ v. On n (slice_set (a ++ b) d.0 v) m [])
-        (λ v. ap (λ r. On n r m []) (set-append_left a b d.0 v h.0)))
+    (λ v. ap (λ r. On n r m []) (set-append_left a b d.0 v h.0)))
 effect-extend P labels a b m (Move ps n) h = ap (λ r. Plain (On n r m [])) (moved_left a b a ps refl h.0.dests h.0.operands)
 effect-extend P labels a b m (Cond t x y) h = ap (λ v. Plain (On (branch v x y) (a ++ b) m [])) (operand_left a b t h.0)
 effect-extend P labels a b m (Call d f args n) h = ap (λ xs. Plain (Calls d f xs n)) (operands_left a b args h.2)
@@ -145,13 +145,13 @@ effect-extend P labels a b m (Load d x n) h =
     let address = operand_value a x in
     ap (λ y. Plain (load_effect d y n (a ++ b) m)) (operand_left a b x h.1)
     ∙ ap Plain (value_left b (cell m address) (BadAddress address) (λ v. On n (slice_set a d.0 v) m []) (λ v. On n (slice_set (a ++ b) d.0 v) m [])
-        (λ v. ap (λ r. On n r m []) (set-append_left a b d.0 v h.0)))
+    (λ v. ap (λ r. On n r m []) (set-append_left a b d.0 v h.0)))
 effect-extend P labels a b m (Store x v n) h =
     let address = operand_value a x in
     let value = operand_value a v in
     ap₂ (λ y z. Plain (store_effect y z n (a ++ b) m)) (operand_left a b x h.0) (operand_left a b v h.1)
     ∙ ap Plain (value_left b (cell m address) (BadAddress address) (λ w. On n a (with_cell m address value) [])
-        (λ w. On n (a ++ b) (with_cell m address value) []) (λ w. refl))
+    (λ w. On n (a ++ b) (with_cell m address value) []) (λ w. refl))
 effect-extend P labels a b m (Fail f l) h = refl
 effect-extend P labels a b m (Assume gs back t n) h = ap (λ z. Guarded z back t n) (guards_left a b gs h.1)
 effect-extend P labels a b m (Anchor back t n) h = refl
@@ -208,8 +208,8 @@ allows_right a b (Known fs) fine h = satisfies_right a b fs fine.registers h
 -- code' has n registers more, and at each label of code a place with the same point, facts and pairs
 pub record HasRoom (P : Program) (code code' : Code) (n : ℕ) : Type 0 where
   pub regs : code'.regs ≡ code.regs + n
-  pub kept : (x : Label) (p : Place) → place_at code x ≡ Some p →
-      (p' : Place) × (place_at code' x ≡ Some p') × (p.point ≡ p'.point) × (p.facts ≡ p'.facts) × (p.backs ≡ p'.backs)
+  pub kept : (x : Label) (p : Place) → place_at code x ≡ Some p → (p' : Place) × (place_at code' x ≡ Some p') × (p.point ≡ p'.point) × (p.facts ≡ p'.facts)
+      × (p.backs ≡ p'.backs)
   pub fine : (x : Label) (p : Place) → place_at code x ≡ Some p → IsPlaceFine P code.regs (length code.places) p
 
 module _ (P : Program) (code code' : Code) (b : List ℤ) (room : HasRoom P code code' (length b)) where
@@ -255,8 +255,11 @@ module _ (P : Program) (code code' : Code) (b : List ℤ) (room : HasRoom P code
   pub resumes_wider : (x : Label) (a : List ℤ) (st : Stack) → Resumes P code x a st → Resumes P code' x (a ++ b) st
   resumes_wider x a st s =
       let w = wider x a st s.arrives in
-      record { arrives = w.arrives; backs = λ q c. let c' = subst (λ bs. Contains bs q) (sym w.backs) c in own_wider a x st s.arrives.place w q c'
-          (s.backs q c') }
+      record {
+        arrives = w.arrives;
+        backs = λ q c. let c' = subst (λ bs. Contains bs q) (sym w.backs) c in own_wider a x st s.arrives.place w q c'
+            (s.backs q c');
+      }
 
   -- what the effect of a place owes, over more registers
   pub effect_wider : (p : Place) (a m : List ℤ) → IsFineOver a p → (e : VersionEffect) → IsDestWithin (length a) e → SoundEffect P code p a m e →
@@ -271,8 +274,14 @@ module _ (P : Program) (code code' : Code) (b : List ℤ) (room : HasRoom P code
         arrives = w.arrives;
         backs = λ q c. let c' = subst (λ bs. Contains bs q) (sym w.backs) c in
             ⊎_elim (λ own. inl (own_wider regs' next s.stack s.arrives.place w q c' own))
-            (λ sil. inr (record { instr = sil.instr; base = subst (λ z. IsSilent (instr_of P z)) (sym same) sil.base; before = sil.before; turns = sil.turns;
-                carried = sil.carried })) (s.backs q c');
+            (λ sil. inr (record {
+              instr = sil.instr;
+              base = subst (λ z. IsSilent (instr_of P z)) (sym same) sil.base;
+              before = sil.before;
+              turns =
+                  sil.turns;
+              carried = sil.carried;
+            })) (s.backs q c');
       }
   effect_wider p a m i (Plain (Calls dest f args next)) d s =
       let same = sym (frames_left P a b p.point i.point) in
@@ -280,7 +289,7 @@ module _ (P : Program) (code code' : Code) (b : List ℤ) (room : HasRoom P code
         call = subst (λ z. IsAtCall P z f args) same s.call;
         resumes = λ x. subst (λ z. Resumes P code' next (slice_set (a ++ b) dest.0 x) (after_call P z x)) same
             (subst (λ z. Resumes P code' next z (after_call P (frames_of P p.point a) x)) (sym (set-append_left a b dest.0 x d))
-                (resumes_wider next (slice_set a dest.0 x) (after_call P (frames_of P p.point a) x) (s.resumes x)));
+            (resumes_wider next (slice_set a dest.0 x) (after_call P (frames_of P p.point a) x) (s.resumes x)));
       }
   effect_wider p a m i (Plain (Returns x)) d s = ap (λ z. base_turn P z m) (frames_left P a b p.point i.point) ∙ s
   effect_wider p a m i (Plain (Faults e)) d s = ap (λ z. base_turn P z m) (frames_left P a b p.point i.point) ∙ s
@@ -292,8 +301,13 @@ module _ (P : Program) (code code' : Code) (b : List ℤ) (room : HasRoom P code
             let w = wider next a (frames_of P p.point a) g.arrives in
             let same = frames_left P a b p.point i.point in
             record {
-              arrives = record { place = w.arrives.place; at = w.arrives.at; admits = w.arrives.admits;
-                  same = subst (λ z. Same P z (frames_of P w.arrives.place.point (a ++ b))) (sym same) w.arrives.same };
+              arrives = record {
+                place = w.arrives.place;
+                at = w.arrives.at;
+                admits = w.arrives.admits;
+                same = subst
+                    (λ z. Same P z (frames_of P w.arrives.place.point (a ++ b))) (sym same) w.arrives.same;
+              };
               equal = same ∙ g.equal ∙ sym (frames_wider a g.arrives.place w.arrives.place w.fine w.point);
               backs = λ q c. let c' = subst (λ bs. Contains bs q) (sym w.backs) c in
                   ⊎_elim (λ own. inl (own_wider a next (frames_of P p.point a) g.arrives.place w q c' own)) (λ o. inr o) (g.backs q c');

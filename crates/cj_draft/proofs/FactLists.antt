@@ -1,6 +1,6 @@
 -- Facts and the lists of registers that satisfy them.
-use Rattle.std.proofs.Common.{◌≡◌, ◌≢◌, ℕ, suc, ◌<◌, ◌⊎◌, List, [], ◌∷◌, length, map, replicate, refl, sym, ap, ap₂, ◌∙◌, subst, arith, inl, inr, ⊎_elim,
-    length-set}
+use Rattle.std.proofs.Common.{◌≡◌, ◌≢◌, ℕ, suc, ◌<◌, ◌⊎◌, List, [], ◌∷◌, length, map, replicate, refl, sym, ap, ap₂, ◌∙◌, subst, arith, inl, inr, ⊎_elim}
+use Rattle.std.proofs.Common.{length-set}
 use Rattle.std.specs.Prelude.{ℤ, pos, ◌+ℤ◌, All, slice_index_or, slice_set, ⊤}
 use Rattle.std.specs.List.{Contains, AllPairs}
 use Rattle.std.specs.List.Sorted.{IsStrictlyIncreasing}
@@ -43,7 +43,7 @@ differ_from [] rise = tt
 differ_from (x ∷ facts) rise = (
   (λ k d h e.
       let low : x.reg.0 < slice_index_or (numbers facts) k d.reg.0 = rise 0 (suc k) d.reg.0 (omega arith)
-          (omega (arith, length-map facts (λ (z : Fact). z.reg.0))) in
+      (omega (arith, length-map facts (λ (z : Fact). z.reg.0))) in
       let same = get_or-map (λ (z : Fact). z.reg.0) facts k d in
       omega arith),
   differ_from facts (λ i j d lt h. rise (suc i) (suc j) d (omega arith) (omega arith)),
@@ -115,7 +115,7 @@ one_entailed n known x fine within tells =
     let count : length base ≡ n = length-replicate n (x.value +ℤ pos 1) in
     let regs : List ℤ = filled known base in
     let satisfied : Satisfies known regs = filled_satisfies known base (differ-from_increasing known fine.increasing)
-        (subst (λ k. All (λ y. y.reg.0 < k) known) (sym count) fine.registers) in
+    (subst (λ k. All (λ y. y.reg.0 < k) known) (sym count) fine.registers) in
     let told : register regs x.reg.0 ≡ x.value = tells regs (length-filled known base ∙ count) satisfied in
     ⊎_elim
     (λ h.

@@ -44,5 +44,5 @@ few_pairs n pairs fine =
     let distinct = IsDistinct-from_AllPairs {eq = eqb} (λ a b. (eqb-true a b, eq-eqb a b)) numbers (numbers_differ pairs some fine.differ) in
     let below = All-map (λ r. r < n) dest_number pairs fine.dests in
     let bound = length-le_from_distinct_below numbers n distinct
-        (λ q h. All-contains (λ r. r < n) numbers q below (Contains-from_any (λ x y e. eqb-true x y e) q numbers h)) in
+    (λ q h. All-contains (λ r. r < n) numbers q below (Contains-from_any (λ x y e. eqb-true x y e) q numbers h)) in
     omega (arith, length-map pairs dest_number)

@@ -62,8 +62,16 @@ module _ (P : Program) (context : List Fact) (f : FunId) (code code' : Code) (a 
       record {
         target_in = g.target_in;
         passes = λ h. record {
-          arrives = record { place = assume_after guards number target next anchor; at = imm.fresh;
-              admits = record { count = fit.count ∙ imm.regs; facts = fit.facts }; same = same_refl P (frames_of P anchor.point regs) };
+          arrives = record {
+            place = assume_after guards number target next anchor;
+            at = imm.fresh;
+            admits = record {
+              count = fit.count
+                  ∙ imm.regs;
+              facts = fit.facts;
+            };
+            same = same_refl P (frames_of P anchor.point regs);
+          };
           equal = refl;
           backs = λ q c. inr c;
         };
@@ -78,8 +86,8 @@ module _ (P : Program) (context : List Fact) (f : FunId) (code code' : Code) (a 
       let g = guard_at regs fit in
       let same : Grown anchor p' = record { point = refl; backs = λ q c. c; silent = λ i. absurd (not_silent (subst IsSilentIn imm.instr i)) } in
       guarded_way P code code' anchor p' regs (guards_hold regs guards) number target next next same
-          (λ h st r. same_way P code code' imm.regs imm.kept (λ q. Contains p'.backs q) regs st next r)
-          (record { target_in = g.target_in; passes = λ h. g.passes refl })
+      (λ h st r. same_way P code code' imm.regs imm.kept (λ q. Contains p'.backs q) regs st next r)
+      (record { target_in = g.target_in; passes = λ h. g.passes refl })
     where
       not_silent : IsSilentIn (Anchor number target next) → ⊥
       not_silent i = i
@@ -93,20 +101,20 @@ module _ (P : Program) (context : List Fact) (f : FunId) (code code' : Code) (a 
     entry = λ args takes satisfied.
         let st : Stack = record { top = entry_frame P f args; waiting = [] } in
         let w = resumes_way P code code' code.entry code.entry (entry_regs code.regs args) st
-            (λ r. same_way P code code' imm.regs imm.kept (λ q. ⊥) (entry_regs code.regs args) st code.entry r) (sound.entry args takes satisfied) in
+        (λ r. same_way P code code' imm.regs imm.kept (λ q. ⊥) (entry_regs code.regs args) st code.entry r) (sound.entry args takes satisfied) in
         subst (λ e. Resumes P code' e (entry_regs code'.regs args) st) (sym imm.entry)
-            (subst (λ n. Resumes P code' code.entry (entry_regs n args) st) imm.regs w);
+        (subst (λ n. Resumes P code' code.entry (entry_regs n args) st) imm.regs w);
     places = λ x p' at regs m fit. ⊎_elim
         (λ old.
         let e = version_effect p'.instr regs m in
         subst (SoundEffect P code' p' regs m) (relabel-same e)
-            (effect_way P code code' (λ z. z) p' p' regs m e (grown-same p') (same_ways P code code' imm.regs imm.kept p' regs e)
-            (sound.places x p' old regs m (admits_old p' regs fit))))
+        (effect_way P code code' (λ z. z) p' p' regs m e (grown-same p') (same_ways P code code' imm.regs imm.kept p' regs e)
+        (sound.places x p' old regs m (admits_old p' regs fit))))
         (λ new. ⊎_elim
         (λ e. subst (λ z. SoundEffect P code' z regs m (version_effect z.instr regs m)) e
-            (anchor_sound regs m (of_anchor p' regs (admits_old p' regs fit) (ap (λ z. z.facts) (sym e)))))
+        (anchor_sound regs m (of_anchor p' regs (admits_old p' regs fit) (ap (λ z. z.facts) (sym e)))))
         (λ e. subst (λ z. SoundEffect P code' z regs m (version_effect z.instr regs m)) e
-            (assume_sound regs m (of_anchor p' regs (admits_old p' regs fit) (ap (λ z. z.facts) (sym e)))))
+        (assume_sound regs m (of_anchor p' regs (admits_old p' regs fit) (ap (λ z. z.facts) (sym e)))))
         new)
         (imm.back x p' at);
     rows = rows;

@@ -1,6 +1,6 @@
 -- Inlining keeps that a code is sound.
-use Rattle.std.proofs.Common.{◌≡◌, ℕ, ◌+◌, ◌-◌, ◌≤◌, ◌⊎◌, List, [], ◌++◌, length, map, take, drop, replicate, Some, sym, ap, ap₂, ◌∙◌, subst, arith, inl,
-    ⊎_elim}
+use Rattle.std.proofs.Common.{◌≡◌, ℕ, ◌+◌, ◌-◌, ◌≤◌, ◌⊎◌, List, [], ◌++◌, length, map, take, drop, replicate, Some, sym, ap, ap₂, ◌∙◌, subst, arith, inl}
+use Rattle.std.proofs.Common.{⊎_elim}
 use Rattle.std.specs.Prelude.{ℤ, pos, slice_set}
 use Rattle.std.proofs.lemmas.List.{length-append, length-map, length-replicate, length-take-le, length-drop, take-append-drop, append-nil, set-append_left}
 use Rattle.std.proofs.lemmas.List.Elements.{All-nil}
@@ -39,15 +39,14 @@ pub record IsInlining (P : Program) (code D code' : Code) (c : Label) (cp : Plac
   pub entry : code'.entry ≡ code.entry
   pub at_c : place_at code c ≡ Some cp
   pub instr : cp.instr ≡ Call dest g args next
-  pub kept : (x : Label) (p : Place) → place_at code x ≡ Some p →
-      (p' : Place) × (place_at code' x ≡ Some p') × (p.point ≡ p'.point) × (p.facts ≡ p'.facts) × (p.backs ≡ p'.backs)
-  pub callee : (x : Label) (p : Place) → place_at D x ≡ Some p →
-      (p' : Place) × (place_at code' (shift_label (length code.places) x) ≡ Some p')
+  pub kept : (x : Label) (p : Place) → place_at code x ≡ Some p → (p' : Place) × (place_at code' x ≡ Some p') × (p.point ≡ p'.point) × (p.facts ≡ p'.facts)
+      × (p.backs ≡ p'.backs)
+  pub callee : (x : Label) (p : Place) → place_at D x ≡ Some p → (p' : Place) × (place_at code' (shift_label (length code.places) x) ≡ Some p')
       × IsInlined code.regs (length code.places) (appended_frames P cp.point.frames) dest next p p' × (p'.facts ≡ joined_facts code.regs cp.facts p.facts)
   pub back : (y : Label) (p' : Place) → place_at code' y ≡ Some p' →
-      (place_at code y ≡ Some p') ⊎
-      ((p' ≡ call_place code.regs D.regs (shift_label (length code.places) D.entry) args cp) ⊎
-      ((x : Label) × (p : Place) × (y ≡ shift_label (length code.places) x) × (place_at D x ≡ Some p)))
+      (place_at code y ≡ Some p')
+      ⊎ ((p' ≡ call_place code.regs D.regs (shift_label (length code.places) D.entry) args cp)
+      ⊎ ((x : Label) × (p : Place) × (y ≡ shift_label (length code.places) x) × (place_at D x ≡ Some p)))
 
 module _ (P : Program) (formed : IsWellFormed P) (context : List Fact) (f g : FunId) (code D code' : Code) (sound : Sound P context f code)
     (sound_D : Sound P [] g D) (c : Label) (cp : Place) (dest : Reg) (args : List Operand) (next : Label)
@@ -88,7 +87,7 @@ module _ (P : Program) (formed : IsWellFormed P) (context : List Fact) (f g : Fu
           count = length-append a b ∙ ap₂ (λ u v. u + v) fit.count h.count ∙ sym ins.regs;
           facts =
               let e : p'.facts ≡ joined_facts (length a) cp.facts p.facts = callee_facts x p p' at at'
-                  ∙ ap (λ n. joined_facts n cp.facts p.facts) (sym fit.count) in
+              ∙ ap (λ n. joined_facts n cp.facts p.facts) (sym fit.count) in
               subst (λ z. Allows z (a ++ b)) (sym e) ((allows_joined a b cp.facts p.facts fine.facts).1 (fit.facts, h.facts));
         };
         below = λ b. appended_is P a b cp.point fine.point;
@@ -110,15 +109,15 @@ module _ (P : Program) (formed : IsWellFormed P) (context : List Fact) (f g : Fu
       let s = call_step a m fit in
       let values = map (operand_value a) args in
       let takes = takes_of a s.call in
-      let few : length values ≤ D.regs = params_within P D (length values) sound_D.named
-          (subst (λ z. Takes P.functions z (length values)) (sym sound_D.function) takes) in
+      let few : length values
+      ≤ D.regs = params_within P D (length values) sound_D.named (subst (λ z. Takes P.functions z (length values)) (sym sound_D.function) takes) in
       let short : length args ≤ length b = omega (arith, length-map args (operand_value a)) in
       let ws = left_waiting P (frames_of P cp.point a) in
       let st : Stack = record { top = entry_frame P g values; waiting = [] } in
       let regs' = entry_regs D.regs values in
       let none : Satisfies [] values = All-nil (λ fact. register values fact.reg.0 ≡ fact.value) in
       let r = resumes_in P D code' a (length code.places) (appended_frames P cp.point.frames) ws dest next (holds a fit) D.entry regs' st
-          (sound_D.entry values takes none) in
+      (sound_D.entry values takes none) in
       let in_call = subst (λ i. IsVInstrFine P (length a) (length code.places) i) ins.instr fine.instr in
       let e0 = entry_move_is args a b short in_call.2 in
       let e : a ++ regs' ≡ moved (a ++ b) (entry_pairs code.regs args D.regs) (a ++ b) =
@@ -152,7 +151,7 @@ module _ (P : Program) (formed : IsWellFormed P) (context : List Fact) (f g : Fu
         back,
         subst (λ z. Resumes P code' next z (over (after_call P st v) [])) (sym (set-append_left a b dest.0 v in_call.0))
             (subst (λ z. Resumes P code' next (slice_set a dest.0 v ++ b) z) (sym (over_nil (after_call P st v)))
-                (resumes_wider P code code' b (room (length b) fit_b.count) next (slice_set a dest.0 v) (after_call P st v) (s.resumes v))),
+            (resumes_wider P code code' b (room (length b) fit_b.count) next (slice_set a dest.0 v) (after_call P st v) (s.resumes v))),
       ))
       (subst (λ n. IsInlined n (length code.places) (appended_frames P cp.point.frames) dest next p p') (sym fit.count) is)
       (sound_D.places x p at b m fit_b)
@@ -164,7 +163,7 @@ module _ (P : Program) (formed : IsWellFormed P) (context : List Fact) (f g : Fu
       let fine = fine_over a y p fit.count at in
       subst (SoundEffect P code' p (a ++ b) m) (sym (effect-extend P (length code.places) a b m p.instr fine.instr))
       (effect_wider P code code' b (room (length b) nb) p a m fine (version_effect p.instr a m)
-          (dest_within P (length a) (length code.places) p.instr a m fine.instr) (sound.places y p at a m fit))
+      (dest_within P (length a) (length code.places) p.instr a m fine.instr) (sound.places y p at a m fit))
 
   -- registers of the new code, in two parts
   any_sound : (y : Label) (p' : Place) → place_at code' y ≡ Some p' → (a b m : List ℤ) → length a ≡ code.regs → length b ≡ D.regs → Allows p'.facts (a ++ b) →
@@ -219,6 +218,6 @@ module _ (P : Program) (formed : IsWellFormed P) (context : List Fact) (f g : Fu
         let nb : length b ≡ D.regs = nb0 ∙ (omega arith) in
         let e : a ++ b ≡ regs = take-append-drop code.regs regs in
         subst (λ z. SoundEffect P code' p' z m (version_effect p'.instr z m)) e
-            (any_sound y p' at a b m na nb (subst (λ z. Allows p'.facts z) (sym e) fit.facts));
+        (any_sound y p' at a b m na nb (subst (λ z. Allows p'.facts z) (sym e) fit.facts));
     rows = rows;
   }

@@ -1,6 +1,6 @@
 -- The parts of inlining: the call that goes, the move that enters the callee, the frames that are appended, and the facts.
-use Rattle.std.proofs.Common.{◌≡◌, ℕ, zero, suc, ◌+◌, ◌-◌, ◌<◌, ◌≤◌, List, [], ◌∷◌, ◌++◌, length, map, replicate, Option, Some, None, refl, sym, ap, ap₂, ◌∙◌,
-    subst, arith}
+use Rattle.std.proofs.Common.{◌≡◌, ℕ, zero, suc, ◌+◌, ◌-◌, ◌<◌, ◌≤◌, List, [], ◌∷◌, ◌++◌, length, map, replicate, Option, Some, None, refl, sym, ap, ap₂, ◌∙◌}
+use Rattle.std.proofs.Common.{subst, arith}
 use Rattle.std.specs.Prelude.{ℤ, pos, All, ◌↔◌, IsSomeAnd}
 use Rattle.std.proofs.lemmas.List.{length-append, set_at, append_assoc}
 use Rattle.std.proofs.lemmas.List.Elements.{All-head, All-tail, All-append}
@@ -57,8 +57,8 @@ give_left P st f args c x below m =
 -- ---- the appended frames
 
 appended_is_by : (P : Program) (a b : List ℤ) (f : PointFrame) (fs : List PointFrame) (o : Option Instr) → IsPointFrameFine P (length a) f →
-    All (IsPointFrameFine P (length a)) fs →
-    map (waiting_of P (a ++ b)) (appended_by o f fs) ≡ left_by o (record { top = top_of P a f; waiting = map (waiting_of P a) fs })
+    All (IsPointFrameFine P (length a)) fs → map (waiting_of P (a ++ b)) (appended_by o f fs)
+    ≡ left_by o (record { top = top_of P a f; waiting = map (waiting_of P a) fs })
 unfolding appended_by left_by waits top_of waiting_of frame_regs
 appended_is_by P a b f fs (Some (Call d g args next)) one rest =
     ap₂ (λ x xs. record { function = f.function; label = next; regs = x; dest = d } ∷ xs) (operands_left a b f.map one.operands) (waiting_left P a b fs rest)
@@ -78,11 +78,11 @@ unfolding appended_frames left_waiting stack_of top_of
 appended_of P a b [] some all = absurd (omega arith)
 appended_of P a b (f ∷ fs) some all =
     appended_is_by P a b f fs (instr_at P f.function f.label) (All-head (IsPointFrameFine P (length a)) f fs all)
-        (All-tail (IsPointFrameFine P (length a)) f fs all)
+    (All-tail (IsPointFrameFine P (length a)) f fs all)
 
 -- they are the frames that wait while the call of the point runs
-pub appended_is : (P : Program) (a b : List ℤ) (p : Point) → IsPointFine P (length a) p →
-    map (waiting_of P (a ++ b)) (appended_frames P p.frames) ≡ left_waiting P (frames_of P p a)
+pub appended_is : (P : Program) (a b : List ℤ) (p : Point) → IsPointFine P (length a) p → map (waiting_of P (a ++ b)) (appended_frames P p.frames)
+    ≡ left_waiting P (frames_of P p a)
 unfolding frames_of
 appended_is P a b p fine = appended_of P a b p.frames fine.some_frame fine.frames
 
@@ -96,8 +96,8 @@ entry_values (o ∷ os) (suc n) regs = operand_value regs o ∷ entry_values os 
 push_seam : (front : List ℤ) (v : ℤ) (ys : List ℤ) → front ++ v ∷ [] ++ ys ≡ front ++ v ∷ ys
 push_seam front v ys = append_assoc front (v ∷ []) ys
 
-entry_moved : (os : List Operand) (regs front rest : List ℤ) →
-    moved regs (entry_pairs (length front) os (length rest)) (front ++ rest) ≡ front ++ entry_values os (length rest) regs
+entry_moved : (os : List Operand) (regs front rest : List ℤ) → moved regs (entry_pairs (length front) os (length rest)) (front ++ rest) ≡ front
+    ++ entry_values os (length rest) regs
 unfolding moved entry_pairs entry_values
 entry_moved os regs front [] = refl
 entry_moved [] regs front (y ∷ ys) =
@@ -160,11 +160,11 @@ shifted_satisfied a b [] h k d lt = absurd (omega arith)
 shifted_satisfied a b (x ∷ own) h zero d lt = sym (register_shift a b x.reg.0) ∙ h 0 (shift_fact (length a) x) (omega arith)
 shifted_satisfied a b (x ∷ own) h (suc k) d lt =
     shifted_satisfied a b own (All-tail (λ y. register (a ++ b) y.reg.0 ≡ y.value) (shift_fact (length a) x) (map (shift_fact (length a)) own) h) k d
-        (omega arith)
+    (omega arith)
 
 -- the joined facts allow what both allow
-pub allows_joined : (a b : List ℤ) (facts own : Facts) → HasFineFacts (length a) facts →
-    Allows (joined_facts (length a) facts own) (a ++ b) ↔ (Allows facts a × Allows own b)
+pub allows_joined : (a b : List ℤ) (facts own : Facts) → HasFineFacts (length a) facts → Allows (joined_facts (length a) facts own) (a ++ b)
+    ↔ (Allows facts a × Allows own b)
 unfolding joined_facts
 allows_joined a b Unreached own fine = ((λ h. absurd h), (λ h. absurd h.0))
 allows_joined a b (Known facts) Unreached fine = ((λ h. absurd h), (λ h. absurd h.1))

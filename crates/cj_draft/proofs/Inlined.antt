@@ -11,8 +11,8 @@ use Rattle.cj_ir.specs.declared.language.Operand.{Operand}
 use Rattle.cj_ir.specs.declared.language.Operand.TheVariants as operand
 use Rattle.cj_ir.specs.declared.language.Guard.{Guard}
 use Rattle.cj_ir.specs.declared.language.Guard.TheVariants.{Is, Never}
-use Rattle.cj_base.specs.Machine.{over, Fault, BadAddress, ZeroDivisor, Effect, On, Calls, Returns, Faults, with_value, cell, with_cell, branch, op_effect,
-    load_effect, store_effect}
+use Rattle.cj_base.specs.Machine.{over, Fault, BadAddress, ZeroDivisor, Effect, On, Calls, Returns, Faults, with_value, cell, with_cell, branch, op_effect}
+use Rattle.cj_base.specs.Machine.{load_effect, store_effect}
 use Rattle.cj_draft.specs.declared.points.PointFrame.{PointFrame}
 use Rattle.cj_draft.specs.declared.instructions.Pair.{Pair}
 use Rattle.cj_draft.specs.declared.instructions.VInstr.{VInstr}
@@ -58,7 +58,7 @@ unfolding moved shift_pair shift_reg
 moved_shift a b c [] = refl
 moved_shift a b c (p ∷ ps) =
     ap (λ z. moved (a ++ b) (map (shift_pair (length a)) ps) z) (ap (λ v. slice_set (a ++ c) (length a + p.dest.0) v) (operand_shift a b p.value)
-        ∙ set_shift a c p.dest.0 (operand_value b p.value))
+    ∙ set_shift a c p.dest.0 (operand_value b p.value))
     ∙ moved_shift a b (slice_set c p.dest.0 (operand_value b p.value)) ps
 
 -- ---- frames
@@ -71,8 +71,8 @@ waiting_shift P a b (f ∷ fs) =
 
 -- the frames of a joined point: those of the callee's point, with the caller's below
 pub frames_joined : (P : Program) (a b : List ℤ) (f : PointFrame) (fs tail : List PointFrame) →
-    frames_of P (joined (length a) tail (record { frames = f ∷ fs })) (a ++ b) ≡ over (frames_of P (record { frames = f ∷ fs }) b)
-    (map (waiting_of P (a ++ b)) tail)
+    frames_of P (joined (length a) tail (record { frames = f ∷ fs })) (a ++ b)
+    ≡ over (frames_of P (record { frames = f ∷ fs }) b) (map (waiting_of P (a ++ b)) tail)
 unfolding frames_of stack_of joined over top_of frame_regs shift_frame
 frames_joined P a b f fs tail =
     ap₂ (λ x ws. record { top = record { function = f.function; label = f.label; regs = x }; waiting = ws }) (operands_shift a b f.map)
@@ -103,9 +103,9 @@ unfolding version_effect inlined_instr inlined_effect inlined_plain op_effect lo
 effect-inlined a b m k tail dest after (Nop n) = refl
 effect-inlined a b m k tail dest after (Op d e n) =
     ap Plain (ap (λ o. with_value o ZeroDivisor (λ v. On (shift_label k n) (slice_set (a ++ b) (length a + d.0) v) m []))
-        (operands_value (shift_operand (length a)) (a ++ b) b (operand_shift a b) e)
+    (operands_value (shift_operand (length a)) (a ++ b) b (operand_shift a b) e)
     ∙ value_inlined a b m k dest after (expr_value b e) ZeroDivisor (λ v. On n (slice_set b d.0 v) m [])
-        (λ v. On (shift_label k n) (slice_set (a ++ b) (length a + d.0) v) m []) (λ v. ap (λ r. On (shift_label k n) r m []) (set_shift a b d.0 v)))
+    (λ v. On (shift_label k n) (slice_set (a ++ b) (length a + d.0) v) m []) (λ v. ap (λ r. On (shift_label k n) r m []) (set_shift a b d.0 v)))
 effect-inlined a b m k tail dest after (Move ps n) = ap (λ r. Plain (On (shift_label k n) r m [])) (moved_shift a b b ps)
 effect-inlined a b m k tail dest after (Cond t x y) =
     ap (λ v. Plain (On (branch v (shift_label k x) (shift_label k y)) (a ++ b) m [])) (operand_shift a b t)
@@ -117,13 +117,13 @@ effect-inlined a b m k tail dest after (Load d x n) =
     let address = operand_value b x in
     ap (λ y. Plain (load_effect (shift_reg (length a) d) y (shift_label k n) (a ++ b) m)) (operand_shift a b x)
     ∙ ap Plain (value_inlined a b m k dest after (cell m address) (BadAddress address) (λ v. On n (slice_set b d.0 v) m [])
-        (λ v. On (shift_label k n) (slice_set (a ++ b) (length a + d.0) v) m []) (λ v. ap (λ r. On (shift_label k n) r m []) (set_shift a b d.0 v)))
+    (λ v. On (shift_label k n) (slice_set (a ++ b) (length a + d.0) v) m []) (λ v. ap (λ r. On (shift_label k n) r m []) (set_shift a b d.0 v)))
 effect-inlined a b m k tail dest after (Store x v n) =
     let address = operand_value b x in
     let value = operand_value b v in
     ap₂ (λ y z. Plain (store_effect y z (shift_label k n) (a ++ b) m)) (operand_shift a b x) (operand_shift a b v)
     ∙ ap Plain (value_inlined a b m k dest after (cell m address) (BadAddress address) (λ w. On n b (with_cell m address value) [])
-        (λ w. On (shift_label k n) (a ++ b) (with_cell m address value) []) (λ w. refl))
+    (λ w. On (shift_label k n) (a ++ b) (with_cell m address value) []) (λ w. refl))
 effect-inlined a b m k tail dest after (Fail f l) = refl
 effect-inlined a b m k tail dest after (Assume gs back t n) = ap (λ h. guarded h) (guards_shift a b gs)
   where

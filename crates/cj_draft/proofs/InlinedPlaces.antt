@@ -48,8 +48,8 @@ pub record IsInlined (n k : ℕ) (tail : List PointFrame) (dest : Reg) (after : 
 
 -- the callee D inside code', with the caller's registers `a` in front, and its frames `ws` below
 pub record Holds (P : Program) (D code' : Code) (a : List ℤ) (k : ℕ) (tail : List PointFrame) (ws : List Waiting) (dest : Reg) (after : Label) : Type 0 where
-  pub place : (x : Label) (p : Place) → place_at D x ≡ Some p →
-      (p' : Place) × (place_at code' (shift_label k x) ≡ Some p') × IsInlined (length a) k tail dest after p p'
+  pub place : (x : Label) (p : Place) → place_at D x ≡ Some p → (p' : Place) × (place_at code' (shift_label k x) ≡ Some p')
+      × IsInlined (length a) k tail dest after p p'
   pub admits : (x : Label) (p p' : Place) (b : List ℤ) → place_at D x ≡ Some p → place_at code' (shift_label k x) ≡ Some p' → Admits D p b →
       Admits code' p' (a ++ b)
   pub below : (b : List ℤ) → map (waiting_of P (a ++ b)) tail ≡ ws
@@ -135,7 +135,7 @@ module _ (P : Program) (D code' : Code) (a : List ℤ) (k : ℕ) (tail : List Po
         arrives = r.arrives;
         backs = λ q' c. let q = r.inlined.back q' c in
             ⊎_elim (λ own. inl (own_in s.arrives.place r.arrives.place b' q.0 q' r.inlined q.2 q.3 own)) (λ sil. inr (carried_in p p' b q.0 q' i q.2 sil))
-                (s.backs q.0 q.1);
+            (s.backs q.0 q.1);
       }
 
   -- a return of the callee is the move after which the caller goes on
@@ -148,8 +148,11 @@ module _ (P : Program) (D code' : Code) (a : List ℤ) (k : ℕ) (tail : List Po
   pub resumes_in : (x : Label) (b : List ℤ) (st : Stack) → Resumes P D x b st → Resumes P code' (shift_label k x) (a ++ b) (over st ws)
   resumes_in x b st s =
       let r = arrives_in x b st s.arrives in
-      record { arrives = r.arrives; backs = λ q' c. let q = r.inlined.back q' c in own_in s.arrives.place r.arrives.place b q.0 q' r.inlined q.2 q.3
-          (s.backs q.0 q.1) }
+      record {
+        arrives = r.arrives;
+        backs = λ q' c. let q = r.inlined.back q' c in own_in s.arrives.place r.arrives.place b q.0 q' r.inlined q.2 q.3
+            (s.backs q.0 q.1);
+      }
 
   after_over : (st : Stack) (f : FunId) (args : List ℤ) → IsAtCall P st f args → (x : ℤ) → after_call P (over st ws) x ≡ over (after_call P st x) ws
   unfolding after_call returned_by over
@@ -169,9 +172,9 @@ module _ (P : Program) (D code' : Code) (a : List ℤ) (k : ℕ) (tail : List Po
         resumes = λ x.
             let r = resumes_in next (slice_set b d.0 x) (after_call P (frames_of P p.point b) x) (s.resumes x) in
             let r1 = subst (λ regs. Resumes P code' (shift_label k next) regs (over (after_call P (frames_of P p.point b) x) ws))
-                (sym (set_shift a b d.0 x)) r in
+            (sym (set_shift a b d.0 x)) r in
             let r2 = subst (λ st. Resumes P code' (shift_label k next) (slice_set (a ++ b) (length a + d.0) x) st)
-                (sym (after_over (frames_of P p.point b) f args s.call x)) r1 in
+            (sym (after_over (frames_of P p.point b) f args s.call x)) r1 in
             subst (λ st. Resumes P code' (shift_label k next) (slice_set (a ++ b) (length a + d.0) x) (after_call P st x)) e r2;
       }
 
@@ -184,19 +187,24 @@ module _ (P : Program) (D code' : Code) (a : List ℤ) (k : ℕ) (tail : List Po
             let g = s.passes t in
             let r = arrives_in next b (frames_of P p.point b) g.arrives in
             record {
-              arrives = record { place = r.arrives.place; at = r.arrives.at; admits = r.arrives.admits;
-                  same = subst (λ st. Same P st (frames_of P r.arrives.place.point (a ++ b))) (sym (place_point p p' b i)) r.arrives.same };
+              arrives = record {
+                place = r.arrives.place;
+                at = r.arrives.at;
+                admits = r.arrives.admits;
+                same = subst
+                    (λ st. Same P st (frames_of P r.arrives.place.point (a ++ b))) (sym (place_point p p' b i)) r.arrives.same;
+              };
               equal = place_point p p' b i ∙ ap (λ z. over z ws) g.equal ∙ sym (place_point g.arrives.place r.arrives.place b r.inlined);
               backs = λ q' c. let q = r.inlined.back q' c in
                   ⊎_elim (λ own. inl (own_in g.arrives.place r.arrives.place b q.0 q' r.inlined q.2 q.3 own))
-                      (λ old. inr (subst (Contains p'.backs) (sym q.2) (i.backs q.0 old))) (g.backs q.0 q.1);
+                  (λ old. inr (subst (Contains p'.backs) (sym q.2) (i.backs q.0 old))) (g.backs q.0 q.1);
             };
       }
 
   -- what the caller owes at a return
   abbrev Caller : List ℤ → Type 0
-  Caller b = (m : List ℤ) (x : ℤ) →
-      (st : Stack) × (give x ws m ≡ Goes [] (record { stack = st; memory = m })) × Resumes P code' after (slice_set (a ++ b) dest.0 x) st
+  Caller b = (m : List ℤ) (x : ℤ) → (st : Stack) × (give x ws m ≡ Goes [] (record { stack = st; memory = m }))
+      × Resumes P code' after (slice_set (a ++ b) dest.0 x) st
 
   effect_in : (p p' : Place) (b m : List ℤ) → Caller b → IsInlined (length a) k tail dest after p p' → (e : VersionEffect) → SoundEffect P D p b m e →
       SoundEffect P code' p' (a ++ b) m (inlined_effect a b m k tail dest after e)

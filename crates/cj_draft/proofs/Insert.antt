@@ -118,7 +118,7 @@ module _ (P : Program) (context : List Fact) (f : FunId) (code code' : Code) (l 
       let g : Grown p p' = record { point = k.point; backs = k.backs; silent = λ i. subst IsSilentIn (sym k.instr) (silent-relabel r p.instr i) } in
       let e = ap (λ i. version_effect i regs m) k.instr ∙ effect-relabel r p.instr regs m in
       subst (SoundEffect P code' p' regs m) (sym e)
-          (effect_way P code code' r p p' regs m (version_effect p.instr regs m) g (ways_on p' regs (version_effect p.instr regs m) new) s)
+      (effect_way P code code' r p p' regs m (version_effect p.instr regs m) g (ways_on p' regs (version_effect p.instr regs m) new) s)
 
   -- the fresh place goes on to l, with the same frames and facts
   fresh_passes : (regs : List ℤ) → Admits code' ins.fresh regs → Passes P code' ins.fresh regs l
@@ -126,8 +126,13 @@ module _ (P : Program) (context : List Fact) (f : FunId) (code code' : Code) (l 
       let k = ins.kept l ins.place ins.at_l in
       let e = ap (λ z. frames_of P z regs) (sym k.2.point ∙ ins.point) in
       record {
-        arrives = record { place = k.0; at = k.1; admits = admits_to ins.place k.0 regs k.2.facts (admits_from ins.place ins.fresh regs ins.facts h);
-            same = subst (λ s. Same P s (frames_of P k.0.point regs)) e (same_refl P (frames_of P k.0.point regs)) };
+        arrives = record {
+          place = k.0;
+          at = k.1;
+          admits = admits_to ins.place k.0 regs k.2.facts (admits_from ins.place ins.fresh regs ins.facts h);
+          same =
+              subst (λ s. Same P s (frames_of P k.0.point regs)) e (same_refl P (frames_of P k.0.point regs));
+        };
         equal = sym e;
         backs = λ q c. ⊎_elim (λ o. inr (ins.backs q o)) (λ n. absurd (ins.none_at_l q n)) (k.2.only q c);
       }
@@ -136,9 +141,9 @@ module _ (P : Program) (context : List Fact) (f : FunId) (code code' : Code) (l 
   unfolding version_effect
   fresh_place regs m h = ⊎_elim
       (λ i. subst (λ z. SoundEffect P code' ins.fresh regs m (version_effect z regs m)) (sym i)
-          (record { target_in = ins.target_in; passes = λ t. fresh_passes regs h }))
+      (record { target_in = ins.target_in; passes = λ t. fresh_passes regs h }))
       (λ i. subst (λ z. SoundEffect P code' ins.fresh regs m (version_effect z regs m)) (sym i)
-          (record { target_in = ins.target_in; passes = λ t. fresh_passes regs h }))
+      (record { target_in = ins.target_in; passes = λ t. fresh_passes regs h }))
       ins.instr
 
   -- the new entry's facts are the old one's
@@ -158,7 +163,7 @@ module _ (P : Program) (context : List Fact) (f : FunId) (code code' : Code) (l 
   pub inserted_sound : Sound P context f code
       → WellNamed P code'
       → ((x : Label) (p p' : Place) → place_at code x ≡ Some p → place_at code' x ≡ Some p' → IsKept r (New x) p p' → (regs m : List ℤ) → Admits code p regs →
-          NewOn P code r New p' regs (version_effect p.instr regs m))
+      NewOn P code r New p' regs (version_effect p.instr regs m))
       → ((regs : List ℤ) (st : Stack) (s : Arrives P code code.entry regs st) (q : Back) → New (r code.entry) q → IsOwn P s.place regs q)
       → ((x : Label) → RowWithin code' 8 x)
       → Sound P context f code'
@@ -174,7 +179,7 @@ module _ (P : Program) (context : List Fact) (f : FunId) (code code' : Code) (l 
         let w = resumes_way P code code' code.entry (r code.entry) (entry_regs code.regs args) st
         (λ x. way_any (λ q. ⊥) (entry_regs code.regs args) st code.entry x (λ q n. inl (first (entry_regs code.regs args) st x q n))) old in
         subst (λ e. Resumes P code' e (entry_regs code'.regs args) st) (sym ins.entry)
-            (subst (λ n. Resumes P code' (r code.entry) (entry_regs n args) st) ins.regs w);
+        (subst (λ n. Resumes P code' (r code.entry) (entry_regs n args) st) ins.regs w);
     places = λ x p' at regs m fit. ⊎_elim
         (λ e.
         let same : ins.fresh ≡ p' = same_Some ins.fresh p' (sym ins.at_a ∙ ap (place_at code') (sym e) ∙ at) in

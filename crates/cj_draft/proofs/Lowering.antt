@@ -54,9 +54,16 @@ module _ (P : Program) (context : List Fact) (f : FunId) (code code' : Code) (r 
   kept_way regs st x a p' at k =
       let e = ap (λ z. frames_of P z regs) k.point in
       record {
-        arrives = record { place = p'; at = at;
-            admits = record { count = a.admits.count ∙ same_regs; facts = subst (λ z. Allows z regs) k.facts a.admits.facts };
-            same = subst (Same P st) e a.same };
+        arrives = record {
+          place = p';
+          at = at;
+          admits = record {
+            count = a.admits.count
+                ∙ same_regs;
+            facts = subst (λ z. Allows z regs) k.facts a.admits.facts;
+          };
+          same = subst (Same P st) e a.same;
+        };
         point = e;
         backs = λ q c. ⊎_elim (λ o. inl o) (λ n. absurd n) (k.only q c);
       }
@@ -66,8 +73,13 @@ module _ (P : Program) (context : List Fact) (f : FunId) (code code' : Code) (r 
       Way P code code' NoPair regs (frames_of P a.place.point regs) g.arrives.place y → Way P code code' NoPair regs st a.place y
   anchor_way regs st x a next y g w =
       record {
-        arrives = record { place = w.arrives.place; at = w.arrives.at; admits = w.arrives.admits;
-            same = same_trans P st (frames_of P a.place.point regs) (frames_of P w.arrives.place.point regs) a.same w.arrives.same };
+        arrives = record {
+          place = w.arrives.place;
+          at = w.arrives.at;
+          admits = w.arrives.admits;
+          same = same_trans P st (frames_of P a.place.point regs)
+              (frames_of P w.arrives.place.point regs) a.same w.arrives.same;
+        };
         point = g.equal ∙ w.point;
         backs = λ q c. ⊎_elim (λ o. ⊎_elim (λ own. inr (inl (own.0, own.1 ∙ w.point))) (λ i. inl i) (g.backs q o)) (λ n. inr n) (w.backs q c);
       }
@@ -77,7 +89,7 @@ module _ (P : Program) (context : List Fact) (f : FunId) (code code' : Code) (r 
   unfolding version_effect
   passes_of x p at regs fit b t next e =
       let s : StepsGuarded P code p regs true b t next = subst (λ i. SoundEffect P code p regs [] (version_effect i regs [])) e
-          (sound.places x p at regs [] fit) in
+      (sound.places x p at regs [] fit) in
       s.passes refl
 
   lower_way : (n : ℕ) (x : Label) → R x → RowWithin code n x → (regs : List ℤ) (st : Stack) (a : Arrives P code x regs st) →
@@ -123,7 +135,7 @@ module _ (P : Program) (context : List Fact) (f : FunId) (code code' : Code) (r 
       let fine = all_at (IsPlaceFine P code.regs (length code.places)) code.places code.entry.0 old.0 sound.named.places old.1 in
       let fine' = all_at (IsPlaceFine P code'.regs (length code'.places)) code'.places (r code.entry).0 p' named.places at' in
       among-allowed code.regs context old.0.facts p'.facts (sound.entry_facts old.0 old.1) fine.facts
-          (subst (λ n. HasFineFacts n p'.facts) (sym same_regs) fine'.facts)
+      (subst (λ n. HasFineFacts n p'.facts) (sym same_regs) fine'.facts)
       (entry_allows re old.0 p' old.1 at')
 
   -- The lowered code is sound where it is well named and its rows are short.
@@ -136,9 +148,9 @@ module _ (P : Program) (context : List Fact) (f : FunId) (code code' : Code) (r 
     entry = λ args takes satisfied.
         let st : Stack = record { top = entry_frame P f args; waiting = [] } in
         let w = resumes_way P code code' code.entry (r code.entry) (entry_regs code.regs args) st
-            (λ a. more_way NoPair (entry_regs code.regs args) st code.entry re a) (sound.entry args takes satisfied) in
+        (λ a. more_way NoPair (entry_regs code.regs args) st code.entry re a) (sound.entry args takes satisfied) in
         subst (λ e. Resumes P code' e (entry_regs code'.regs args) st) (sym en)
-            (subst (λ n. Resumes P code' (r code.entry) (entry_regs n args) st) same_regs w);
+        (subst (λ n. Resumes P code' (r code.entry) (entry_regs n args) st) same_regs w);
     places = λ y p' at regs m fit.
         let k = back y p' at in
         let kk = k.4 in
@@ -147,6 +159,6 @@ module _ (P : Program) (context : List Fact) (f : FunId) (code code' : Code) (r 
         let e = version_effect k.1.instr regs m in
         let same = ap (λ i. version_effect i regs m) kk.instr ∙ effect-relabel r k.1.instr regs m in
         subst (SoundEffect P code' p' regs m) (sym same)
-            (effect_way P code code' r k.1 p' regs m e g (ways p' regs e (reach k.0 k.1 k.2 k.3 regs m)) (sound.places k.0 k.1 k.3 regs m fit0));
+        (effect_way P code code' r k.1 p' regs m e g (ways p' regs e (reach k.0 k.1 k.2 k.3 regs m)) (sound.places k.0 k.1 k.3 regs m fit0));
     rows = rows;
   }

@@ -75,15 +75,15 @@ module _ (P : Program) (context : List Fact) (f : FunId) (code code' : Code) (s 
     entry = λ args takes satisfied.
         let st : Stack = record { top = entry_frame P f args; waiting = [] } in
         let w = resumes_way P code code' code.entry code.entry (entry_regs code.regs args) st
-            (λ r. same_way P code code' has.regs has.kept (λ q. ⊥) (entry_regs code.regs args) st code.entry r) (sound.entry args takes satisfied) in
+        (λ r. same_way P code code' has.regs has.kept (λ q. ⊥) (entry_regs code.regs args) st code.entry r) (sound.entry args takes satisfied) in
         subst (λ e. Resumes P code' e (entry_regs code'.regs args) st) (sym has.entry)
-            (subst (λ n. Resumes P code' code.entry (entry_regs n args) st) has.regs w);
+        (subst (λ n. Resumes P code' code.entry (entry_regs n args) st) has.regs w);
     places = λ x p' at regs m fit. ⊎_elim
         (λ old.
         let e = version_effect p'.instr regs m in
         subst (SoundEffect P code' p' regs m) (relabel-same e)
-            (effect_way P code code' (λ z. z) p' p' regs m e (grown-same p') (same_ways P code code' has.regs has.kept p' regs e)
-            (sound.places x p' old regs m (admits_old p' regs fit))))
+        (effect_way P code code' (λ z. z) p' p' regs m e (grown-same p') (same_ways P code code' has.regs has.kept p' regs e)
+        (sound.places x p' old regs m (admits_old p' regs fit))))
         (λ e.
         let fit0 : Admits code place regs = record { count = fit.count ∙ sym has.regs; facts = subst (λ (z : Place). Allows' z regs) (sym e) fit.facts } in
         subst (λ z. SoundEffect P code' z regs m (version_effect z.instr regs m)) e (guarded_sound regs m fit0))

@@ -46,9 +46,16 @@ module _ (P : Program) (context : List Fact) (f : FunId) (code code' : Code) (To
       let k = kept x a.place a.at in
       let e = ap (λ z. frames_of P z regs) k.2.point in
       record {
-        arrives = record { place = k.0; at = k.1;
-            admits = record { count = a.admits.count ∙ same_regs; facts = k.2.facts regs a.admits.count a.admits.facts told };
-            same = subst (Same P st) e a.same };
+        arrives = record {
+          place = k.0;
+          at = k.1;
+          admits = record {
+            count = a.admits.count
+                ∙ same_regs;
+            facts = k.2.facts regs a.admits.count a.admits.facts told;
+          };
+          same = subst (Same P st) e a.same;
+        };
         point = e;
         backs = λ q c. inl (subst (λ bs. Contains bs q) (sym k.2.backs) c);
       }
@@ -72,7 +79,7 @@ module _ (P : Program) (context : List Fact) (f : FunId) (code code' : Code) (To
     entry = λ args takes satisfied.
         let st : Stack = record { top = entry_frame P f args; waiting = [] } in
         let w = resumes_way P code code' code.entry code.entry (entry_regs code.regs args) st
-            (λ a. way (λ q. ⊥) (entry_regs code.regs args) st code.entry a (first args takes satisfied)) (s.entry args takes satisfied) in
+        (λ a. way (λ q. ⊥) (entry_regs code.regs args) st code.entry a (first args takes satisfied)) (s.entry args takes satisfied) in
         subst (λ e. Resumes P code' e (entry_regs code'.regs args) st) (sym en) (subst (λ n. Resumes P code' code.entry (entry_regs n args) st) same_regs w);
     places = λ x p' at regs m fit.
         let k = back x p' at in

@@ -22,8 +22,8 @@ use Rattle.cj_draft.proofs.Ways.{Way, WaysOn}
 -- at each label of code, code' has a place with the same point, facts and pairs
 abbrev pub KeepsPlaces : Code → Code → Type 0
 KeepsPlaces code code' =
-    (x : Label) (p : Place) → place_at code x ≡ Some p →
-        (p' : Place) × (place_at code' x ≡ Some p') × (p.point ≡ p'.point) × (p.facts ≡ p'.facts) × (p.backs ≡ p'.backs)
+    (x : Label) (p : Place) → place_at code x ≡ Some p → (p' : Place) × (place_at code' x ≡ Some p') × (p.point ≡ p'.point) × (p.facts ≡ p'.facts)
+    × (p.backs ≡ p'.backs)
 
 module _ (P : Program) (code code' : Code) (same_regs : code.regs ≡ code'.regs) (kept : KeepsPlaces code code') where
   pub same_way : (Extra : Back → Type 0) (regs : List ℤ) (st : Stack) (x : Label) (r : Arrives P code x regs st) → Way P code code' Extra regs st r.place x

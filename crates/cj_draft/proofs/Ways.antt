@@ -9,8 +9,8 @@ use Rattle.cj_ir.specs.declared.language.Label.{Label}
 use Rattle.cj_ir.specs.declared.language.Reg.{Reg}
 use Rattle.cj_ir.specs.declared.language.Program.{Program}
 use Rattle.cj_base.specs.declared.machine.End.TheVariants.{Returned}
-use Rattle.cj_base.specs.Machine.{Stack, Fault, BadAddress, ZeroDivisor, Effect, On, Calls, Returns, Faults, Goes, Ends, end_of, with_value, cell, with_cell,
-    branch, op_effect, load_effect, store_effect, base_turn}
+use Rattle.cj_base.specs.Machine.{Stack, Fault, BadAddress, ZeroDivisor, Effect, On, Calls, Returns, Faults, Goes, Ends, end_of, with_value, cell, with_cell}
+use Rattle.cj_base.specs.Machine.{branch, op_effect, load_effect, store_effect, base_turn}
 use Rattle.cj_base.specs.Run.{IsSilent}
 use Rattle.cj_base.specs.Same.{Same}
 use Rattle.cj_draft.specs.declared.points.Point.{Point}
@@ -55,12 +55,12 @@ effect-relabel r (Print x n) regs m = refl
 effect-relabel r (Load d a n) regs m =
     let address = operand_value regs a in
     ap Plain (value-relabel r (cell m address) (BadAddress address) (λ v. On n (slice_set regs d.0 v) m []) (λ v. On (r n) (slice_set regs d.0 v) m [])
-        (λ v. refl))
+    (λ v. refl))
 effect-relabel r (Store a x n) regs m =
     let address = operand_value regs a in
     let value = operand_value regs x in
     ap Plain (value-relabel r (cell m address) (BadAddress address) (λ v. On n regs (with_cell m address value) [])
-        (λ v. On (r n) regs (with_cell m address value) []) (λ v. refl))
+    (λ v. On (r n) regs (with_cell m address value) []) (λ v. refl))
 effect-relabel r (Fail f l) regs m = refl
 effect-relabel r (Assume g b t n) regs m = refl
 effect-relabel r (Anchor b t n) regs m = refl
@@ -133,7 +133,7 @@ module _ (P : Program) where
         arrives = w.arrives;
         backs = λ q i. ⊎_elim
             (λ old. ⊎_elim (λ own. inl (own_way s.arrives.place w.arrives.place regs' q w.point own)) (λ sil. inr (carried_way from from' regs q g sil))
-                (s.backs q old))
+            (s.backs q old))
             (λ new. new) (w.backs q i);
       }
 
@@ -155,7 +155,7 @@ module _ (P : Program) where
         call = subst (λ p. IsAtCall P (frames_of P p regs) f args) g.point s.call;
         resumes = λ x. subst (λ p. Resumes P code' next' (slice_set regs dest.0 x) (after_call P (frames_of P p regs) x)) g.point
             (resumes_way code code' next next' (slice_set regs dest.0 x) (after_call P (frames_of P from.point regs) x)
-                (ways x (after_call P (frames_of P from.point regs) x)) (s.resumes x));
+            (ways x (after_call P (frames_of P from.point regs) x)) (s.resumes x));
       }
 
   pub guarded_way : (code code' : Code) (from from' : Place) (regs : List ℤ) (holds : Bool) (back : ℕ) (target : Point) (next next' : Label) →

@@ -79,8 +79,8 @@ module _ (P : Program) (n n' k k' : ℕ) (regs : n ≤ n') (labels : k ≤ k') w
 
   facts_wider : (fs : Facts) → HasFineFacts n fs → HasFineFacts n' fs
   facts_wider Unreached h = h
-  facts_wider (Known fs) h = record { registers = All-weaker (λ x. x.reg.0 < n) (λ x. x.reg.0 < n') (λ x lt. omega arith) fs h.registers;
-      increasing = h.increasing }
+  facts_wider (Known fs) h = record
+      { registers = All-weaker (λ x. x.reg.0 < n) (λ x. x.reg.0 < n') (λ x lt. omega arith) fs h.registers; increasing = h.increasing }
 
   back_wider : (q : Back) → IsBackFine P n q → IsBackFine P n' q
   back_wider q h = record { few_turns = h.few_turns; point = point_wider q.point h.point }

@@ -38,8 +38,8 @@ base_entered P codes f offset count args none same =
     ∙ ap (λ n. Some (InBase (record { function = f; label = record { 0 = 0 }; regs = entry_regs n args }))) same
 
 pub version_entered : (P : Program) (codes : Codes) (f : FunId) (offset : ℕ) (code : Code) (args : List ℤ) → offset ≢ 0 → codes f offset ≡ Some code
-    → versions.entered P codes (Some (record { function = f; offset = offset })) f args ≡ Some
-        (active_at (Version f offset code.entry) (entry_regs code.regs args))
+    → versions.entered P codes (Some (record { function = f; offset = offset })) f args
+    ≡ Some (active_at (Version f offset code.entry) (entry_regs code.regs args))
 unfolding active_at version_entry
 version_entered P codes f offset code args not found =
     enters_version P codes _ (record { function = f; offset = offset }) f args code refl refl not found
@@ -123,7 +123,7 @@ unfolding returned returned_to moved_to changes.resumed
 version_returned codes s f offset label dest next value i one two =
     let c = i.caller in
     returns_to_version codes s value s.stack.waiting i.others (record { function = f; offset = offset; label = label; regs = i.regs }) c.code c.place c.dest
-        c.function c.args c.next i.is c.found c.at c.instr
+    c.function c.args c.next i.is c.found c.at c.instr
     ∙ rw (i.is, one, two) refl
 
 none_left : (waiting : List Paused) → innermost waiting ≡ None → waiting ≡ []

@@ -52,8 +52,8 @@ room_after P codes count left s t formed sound r fewer q =
       limit = r.limit;
     }
 
-module _ {P : Program} {codes : Codes} {s : State} {f : FunId} {offset : ℕ} {label : Label} (can : CanTurn P codes s)
-    (position : position_of s.stack.top ≡ Version f offset label) where
+module _ {P : Program} {codes : Codes} {s : State} {f : FunId} {offset : ℕ} {label : Label} (can : CanTurn P codes s) (position : position_of s.stack.top
+    ≡ Version f offset label) where
   pub placed_here : (code : Code) → codes f offset ≡ Some code → (q : Place) × (place_at code label ≡ Some q)
   placed_here code found =
       let there = (version_there can position).1 in

@@ -25,8 +25,8 @@ some_function : (label : Label) (o : Option Function) (i : Instr) →
 some_function label None i e = let never : ⊥ = cc in absurd never
 some_function label (Some g) i e = (g, refl)
 
-module _ {P : Program} {codes : Codes} {s : State} {f : FunId} {label : Label} (can : CanTurn P codes s) (position : position_of s.stack.top ≡ Base f label)
-    where
+module _ {P : Program} {codes : Codes} {s : State} {f : FunId} {label : Label} (can : CanTurn P codes s) (position : position_of s.stack.top
+    ≡ Base f label) where
   here : IsBaseTop P s.stack.top f label
   here = base_top P codes s.base_turns s.stack.top f label position can.top
 

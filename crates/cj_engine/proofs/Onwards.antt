@@ -1,6 +1,6 @@
 -- Turns of a run, one after the other, over what the watch has.
-use Rattle.std.proofs.Common.{◌≡◌, ◌≢◌, ◌∙◌, refl, sym, ap, subst, arith, ℕ, zero, suc, ◌+◌, ◌-◌, ◌<◌, ◌≤◌, List, [], ◌∷◌, ◌++◌, append-nil, append_assoc,
-    length, length-append, Bool, Option, None, inl, inr, ◌⊎◌, ⊎_elim}
+use Rattle.std.proofs.Common.{◌≡◌, ◌≢◌, ◌∙◌, refl, sym, ap, subst, arith, ℕ, zero, suc, ◌+◌, ◌-◌, ◌<◌, ◌≤◌, List, [], ◌∷◌, ◌++◌, append-nil, append_assoc}
+use Rattle.std.proofs.Common.{length, length-append, Bool, Option, None, inl, inr, ◌⊎◌, ⊎_elim}
 use Rattle.std.specs.Prelude.{ℤ, slice_get, Result, Ok, Err, OnErr}
 use Rattle.cj_ir.specs.WellFormed.{IsWellFormed, Takes}
 use Rattle.cj_ir.specs.declared.language.FunId.{FunId}
@@ -32,8 +32,8 @@ use Rattle.cj_machine.proofs.RunMarks.{marks_at_start}
 use Rattle.cj_machine.proofs.Memories.{memory_going, memory_at, memory_continues}
 use Rattle.cj_machine.proofs.Reporting.{run_stands, run_holds}
 use Rattle.cj_machine.proofs.Going.{finished_is}
-use Rattle.cj_engine.proofs.Paths.{turns_then, marks_then, run_then, run_marks_then, ended_turns, ended_marks, turns_counted, turns_later, marks_from_later,
-    turns_hold}
+use Rattle.cj_engine.proofs.Paths.{turns_then, marks_then, run_then, run_marks_then, ended_turns, ended_marks, turns_counted, turns_later, marks_from_later}
+use Rattle.cj_engine.proofs.Paths.{turns_hold}
 use Rattle.cj_engine.proofs.Gliding.{same_codes, room_turns}
 
 -- ---- turns
@@ -58,16 +58,16 @@ pub onward_then : (P : Program) (one other went : List Mark → Type 0) (mid lat
     Onward P other later now n u answer t → Onward P went later now (n + m) s answer t
 onward_then P one other went mid later at more now m n s u answer t g longer both first second =
     let from : Progress = Continues s in
-    let whole : turns_from P later (at ++ more) from m ≡ Continues u = turns_later P mid later g at more from m (Continues u)
-        (continues_defined u) first.made in
+    let whole : turns_from P later (at ++ more) from m
+    ≡ Continues u = turns_later P mid later g at more from m (Continues u) (continues_defined u) first.made in
     let at_now : turns_from P later now from m ≡ Continues u = subst (λ (xs : List Look). turns_from P later xs from m ≡ Continues u) (sym longer) whole in
-    let marks : marks_from P later (at ++ more) from m ≡ marks_from P mid at from m = marks_from_later P mid later g at more from m
-        (running_defined _ u first.made) in
-    let marks_now : marks_from P later now from m ≡ marks_from P mid at from m = subst
-        (λ (xs : List Look). marks_from P later xs from m ≡ marks_from P mid at from m) (sym longer) marks in
+    let marks : marks_from P later (at ++ more) from m
+    ≡ marks_from P mid at from m = marks_from_later P mid later g at more from m (running_defined _ u first.made) in
+    let marks_now : marks_from P later now from m
+    ≡ marks_from P mid at from m = subst (λ (xs : List Look). marks_from P later xs from m ≡ marks_from P mid at from m) (sym longer) marks in
     let all : marks_from P later now from (n + m) ≡ marks_from P mid at from m ++ marks_from P later now (Continues u) n =
     marks_then P later now from n m ∙ ap (λ (ms : List Mark). ms ++ marks_from P later now (turns_from P later now from m) n) marks_now
-        ∙ ap (λ (o : Progress). marks_from P mid at from m ++ marks_from P later now o n) at_now in
+    ∙ ap (λ (o : Progress). marks_from P mid at from m ++ marks_from P later now o n) at_now in
     record {
       made = turns_then P later now from n m ∙ ap (λ (o : Progress). turns_from P later now o n) at_now ∙ second.made;
       told = subst went (sym all) (both _ _ first.told second.told);
@@ -80,10 +80,10 @@ onward_ended P went codes trail n count s end t few o =
     let from : Progress = Continues s in
     let same : count - n + n ≡ count = omega arith in
     let made : turns_from P codes trail from (count - n + n) ≡ Finishes end t = turns_then P codes trail from (count - n) n
-        ∙ ap (λ (x : Progress). turns_from P codes trail x (count - n)) o.made ∙ ended_turns P codes trail end t (count - n) in
+    ∙ ap (λ (x : Progress). turns_from P codes trail x (count - n)) o.made ∙ ended_turns P codes trail end t (count - n) in
     let marks : marks_from P codes trail from (count - n + n) ≡ marks_from P codes trail from n =
     marks_then P codes trail from (count - n) n ∙ ap (λ (x : Progress). marks_from P codes trail from n ++ marks_from P codes trail x (count - n)) o.made
-        ∙ ap (λ (ms : List Mark). marks_from P codes trail from n ++ ms) (ended_marks P codes trail end t (count - n)) ∙ append-nil _ in
+    ∙ ap (λ (ms : List Mark). marks_from P codes trail from n ++ ms) (ended_marks P codes trail end t (count - n)) ∙ append-nil _ in
     record {
       made = subst (λ (k : ℕ). turns_from P codes trail from k ≡ Finishes end t) same made;
       told = subst (λ (k : ℕ). went (marks_from P codes trail from k)) same (subst went (sym marks) o.told);
@@ -192,9 +192,9 @@ pub halted_then : (P : Program) (one other went : List Mark → Type 0) (mid lat
 halted_then P one other went mid later looks at now before between after m n count s u t g both gains first second few =
     let h = second.turns in
     let path : Onward P (λ (ms : List Mark). (ms ≡ marks_from P mid at (Continues s) m ++ marks_from P later now (Continues u) h)) later now
-        (h + m) s Running t =
+    (h + m) s Running t =
     onward_then P (λ (ms : List Mark). ms ≡ marks_from P mid at (Continues s) m) (λ (ms : List Mark). ms ≡ marks_from P later now (Continues u) h) _ mid later
-        at second.more now m h s u Running t g second.looks_more
+    at second.more now m h s u Running t g second.looks_more
     (λ ms ns a b. ap (λ (xs : List Mark). xs ++ ns) a ∙ ap (λ (xs : List Mark). marks_from P mid at (Continues s) m ++ xs) b)
     (record { made = first.made; told = refl }) (record { made = second.made; told = refl }) in
     let fewer = second.fewer in
@@ -210,9 +210,9 @@ halted_then P one other went mid later looks at now before between after m n cou
           (between ++ second.more) (before ++ (gains.more ++ second.more)) after (turn_marks P later t)
           (λ ms w.
           let all : (marks_from P mid at (Continues s) m ++ (marks_from P later now (Continues u) h ++ ms)) ≡ marks_from P later now (Continues s) (h + m)
-              ++ ms =
+          ++ ms =
           sym (append_assoc (marks_from P mid at (Continues s) m) (marks_from P later now (Continues u) h) ms)
-              ∙ ap (λ (xs : List Mark). xs ++ ms) (sym path.told) in
+          ∙ ap (λ (xs : List Mark). xs ++ ms) (sym path.told) in
           subst went all (both _ _ first.told w))
           (ap (λ (xs : List Look). xs ++ second.more) gains.trail_more ∙ append_assoc before gains.more second.more) second.told;
     }
@@ -335,9 +335,9 @@ pub path_goes : (P : Program) (codes later : Codes) (looks more now : List Look)
 path_goes P codes later looks more now count call s answer t formed sound g longer used is room made =
     let start : version_run P later now call s.turns ≡ Continues s =
     subst (λ (xs : List Look). version_run P later xs call s.turns ≡ Continues s) (sym longer)
-        (run_later P call codes later g looks more s.turns (Continues s) (continues_defined s) is.run) in
+    (run_later P call codes later g looks more s.turns (Continues s) (continues_defined s) is.run) in
     let whole : version_run P later now call (count + s.turns) ≡ progress_of answer t = run_then P later now call count s.turns
-        ∙ ap (λ (o : Progress). turns_from P later now o count) start ∙ made in
+    ∙ ap (λ (o : Progress). turns_from P later now o count) start ∙ made in
     path_ends P later now (count + s.turns) call answer t formed sound is.takes is.limit used (omega arith) whole
 
 -- ---- what callers see
@@ -381,14 +381,14 @@ at_once P went codes looks more now before after turns s t first used used_then 
     let size = ap length longer ∙ length-append looks more in
     let no_more : more ≡ [] = none_of more (omega arith) in
     let told0 = subst (λ (n : ℕ). TellsAtMost (λ ms. went (marks_from P codes now (Continues s) n ++ ms)) (before ++ more) after (turn_marks P codes t)) first
-        told in
+    told in
     record {
       same = sym same;
       same_looks = longer ∙ ap (λ (xs : List Look). looks ++ xs) no_more ∙ append-nil looks;
       takes = subst (TurnTakesMemory P codes) (sym same) takes;
       told = subst (λ (x : State). TellsAtMost went before after (turn_marks P codes x)) (sym same)
-          (tells_by went went (before ++ more) before after (turn_marks P codes t) (λ ms w. w)
-              (ap (λ (xs : List Look). before ++ xs) no_more ∙ append-nil before) told0);
+          (tells_by went went (before ++ more) before after (turn_marks P codes t) (λ ms w. w) (ap (λ (xs : List Look). before ++ xs) no_more
+          ∙ append-nil before) told0);
     }
 
 pub halted_at_once : (P : Program) (went : List Mark → Type 0) (codes : Codes) (looks now before after : List Look) (s t : State) → s.entries ≡ length looks →
@@ -401,7 +401,7 @@ pub same_view : (P Q : Program) (s t : State) (looks now : List Look) (running :
     viewed Q t now running ≡ viewed P s looks running
 same_view P Q s t looks now running program state same =
     ap (λ (R : Program). viewed R t now running) program ∙ ap (λ (x : State). viewed P x now running) state
-        ∙ ap (λ (xs : List Look). viewed P s xs running) same
+    ∙ ap (λ (xs : List Look). viewed P s xs running) same
 
 -- ---- a whole run
 
@@ -434,9 +434,9 @@ pub whole_marks : (P : Program) (codes later : Codes) (looks more now : List Loo
 whole_marks P codes later looks more now call s g longer is first =
     let start : version_run P later now call s.turns ≡ Continues s =
     subst (λ (xs : List Look). version_run P later xs call s.turns ≡ Continues s) (sym longer)
-        (run_later P call codes later g looks more s.turns (Continues s) (continues_defined s) is.run) in
+    (run_later P call codes later g looks more s.turns (Continues s) (continues_defined s) is.run) in
     let begun : version_run P later now call 0 ≡ Continues s = subst (λ (n : ℕ). version_run P later now call n ≡ Continues s) first start in
     let all : call.limit + 0 ≡ call.limit = omega arith in
     subst (λ (n : ℕ). run_marks P later now call n ≡ start_marks call ++ marks_from P later now (Continues s) call.limit) all
     (run_marks_then P later now call call.limit 0 ∙ ap (λ (o : Progress). run_marks P later now call 0 ++ marks_from P later now o call.limit) begun
-        ∙ ap (λ (ms : List Mark). ms ++ marks_from P later now (Continues s) call.limit) (marks_at_start P later now call))
+    ∙ ap (λ (ms : List Mark). ms ++ marks_from P later now (Continues s) call.limit) (marks_at_start P later now call))

@@ -26,8 +26,8 @@ module _ (P : Program) (codes : Codes) (trail : List Look) where
       let e : suc n + m ≡ suc (n + m) = omega arith in
       rw e (ap (one_turn_more P codes trail) (turns_then p n m))
 
-  pub marks_then : (p : Progress) (n m : ℕ) →
-      marks_from P codes trail p (n + m) ≡ marks_from P codes trail p m ++ marks_from P codes trail (turns_from P codes trail p m) n
+  pub marks_then : (p : Progress) (n m : ℕ) → marks_from P codes trail p (n + m) ≡ marks_from P codes trail p m
+      ++ marks_from P codes trail (turns_from P codes trail p m) n
   unfolding marks_from
   marks_then p zero m = let e : 0 + m ≡ m = omega arith in rw e (sym (append-nil (marks_from P codes trail p m)))
   marks_then p (suc n) m =
@@ -46,8 +46,8 @@ module _ (P : Program) (codes : Codes) (trail : List Look) where
       let e : suc n + m ≡ suc (n + m) = omega arith in
       rw e (ap (one_turn_more P codes trail) (run_then call n m))
 
-  pub run_marks_then : (call : Begun) (n m : ℕ) →
-      run_marks P codes trail call (n + m) ≡ run_marks P codes trail call m ++ marks_from P codes trail (version_run P codes trail call m) n
+  pub run_marks_then : (call : Begun) (n m : ℕ) → run_marks P codes trail call (n + m) ≡ run_marks P codes trail call m
+      ++ marks_from P codes trail (version_run P codes trail call m) n
   unfolding marks_from run_marks
   run_marks_then call zero m = let e : 0 + m ≡ m = omega arith in rw e (sym (append-nil (run_marks P codes trail call m)))
   run_marks_then call (suc n) m =

@@ -32,7 +32,7 @@ halted_stops P one other went codes later looks now before between after call s 
     let n = h.turns in
     let begun : version_run P later now call s.turns ≡ Continues s =
     subst (λ (xs : List Look). version_run P later xs call s.turns ≡ Continues s) (sym h.looks_more)
-        (run_later P call codes later g looks h.more s.turns (Continues s) (continues_defined s) is.run) in
+    (run_later P call codes later g looks h.more s.turns (Continues s) (continues_defined s) is.run) in
     let start : version_run P later now call 0 ≡ Continues s = subst (λ (m : ℕ). version_run P later now call m ≡ Continues s) none begun in
     let all : n + 0 ≡ n = omega arith in
     let run : version_run P later now call n ≡ Continues t =
@@ -41,10 +41,10 @@ halted_stops P one other went codes later looks now before between after call s 
     let marks : run_marks P later now call n ≡ start_marks call ++ marks_from P later now (Continues s) n =
     subst (λ (m : ℕ). run_marks P later now call m ≡ start_marks call ++ marks_from P later now (Continues s) n) all
     (run_marks_then P later now call n 0 ∙ ap (λ (o : Progress). run_marks P later now call 0 ++ marks_from P later now o n) start
-        ∙ ap (λ (ms : List Mark). ms ++ marks_from P later now (Continues s) n) (marks_at_start P later now call)) in
+    ∙ ap (λ (ms : List Mark). ms ++ marks_from P later now (Continues s) n) (marks_at_start P later now call)) in
     let trail : between ++ h.more ≡ before ++ now =
     ap (λ (xs : List Look). xs ++ h.more) gains.trail_more ∙ append_assoc before gains.more h.more
-        ∙ ap (λ (xs : List Look). before ++ xs) (ap (λ (xs : List Look). xs ++ h.more) (sym gains.looks_more) ∙ sym h.looks_more) in
+    ∙ ap (λ (xs : List Look). before ++ xs) (ap (λ (xs : List Look). xs ++ h.more) (sym gains.looks_more) ∙ sym h.looks_more) in
     record {
       turns = n;
       fewer = h.fewer;
@@ -56,7 +56,7 @@ halted_stops P one other went codes later looks now before between after call s 
       told = tells_by (λ ms. other (marks_from P later now (Continues s) n ++ ms)) (λ ms. went (run_marks P later now call n ++ ms)) (between ++ h.more)
           (before ++ now) after (turn_marks P later t)
           (λ ms w. subst went (sym (append_assoc (start_marks call) (marks_from P later now (Continues s) n) ms)
-              ∙ ap (λ (xs : List Mark). xs ++ ms) (sym marks)) (both _ _ first w))
+          ∙ ap (λ (xs : List Mark). xs ++ ms) (sym marks)) (both _ _ first w))
           trail h.told;
     }
 
@@ -84,7 +84,7 @@ after_later P went codes later before after call g h =
     let looks = h.looks in
     let run : version_run P later looks call n ≡ Continues h.state =
     subst (λ (xs : List Look). version_run P later xs call n ≡ Continues h.state) (append-nil looks)
-        (run_later P call codes later g looks [] n (Continues h.state) (continues_defined h.state) h.run) in
+    (run_later P call codes later g looks [] n (Continues h.state) (continues_defined h.state) h.run) in
     let marks : run_marks P later looks call n ≡ run_marks P codes looks call n =
     subst (λ (xs : List Look). run_marks P later xs call n ≡ run_marks P codes looks call n) (append-nil looks)
     (marks_later P call codes later g looks [] n (λ none. continues_defined h.state (sym h.run ∙ none))) in
@@ -99,7 +99,7 @@ after_later P went codes later before after call g h =
       told = subst (TellsAtMost (λ ms. went (run_marks P later looks call n ++ ms)) (before ++ looks) after)
           (sym (marks_then_later P codes later h.state g h.takes))
           (tells_by (λ ms. went (run_marks P codes looks call n ++ ms)) (λ ms. went (run_marks P later looks call n ++ ms)) (before ++ looks)
-              (before ++ looks) after (turn_marks P codes h.state)
+          (before ++ looks) after (turn_marks P codes h.state)
           (λ ms w. subst went (ap (λ (xs : List Mark). xs ++ ms) (sym marks)) w) refl h.told);
     }
 

@@ -28,8 +28,9 @@ use Rattle.cj_machine.specs.declared.steps.Step.TheVariants.{Goes}
 use Rattle.cj_machine.specs.Versions.{State, Codes, Progress, version_turn, version_turn_by}
 use Rattle.cj_machine.specs.Marks.{version_marks, turn_marks}
 use Rattle.cj_machine.specs.CodeMaps.{Grows}
-use Rattle.cj_machine.specs.Stepping.{Turn, StandsAt, IsStep, IsReady, CanGoBack, IsBaseStep, IsVersionStep, StaysIn, BaseNeeds, VersionNeeds,
-    EffectTakesMemory, VersionTakesMemory, BaseTakesMemory, PlaceTakesMemory, TopTakesMemory, TurnTakesMemory, IsEntry, marks_told}
+use Rattle.cj_machine.specs.Stepping.{Turn, StandsAt, IsStep, IsReady, CanGoBack, IsBaseStep, IsVersionStep, StaysIn, BaseNeeds, VersionNeeds}
+use Rattle.cj_machine.specs.Stepping.{EffectTakesMemory, VersionTakesMemory, BaseTakesMemory, PlaceTakesMemory, TopTakesMemory, TurnTakesMemory, IsEntry}
+use Rattle.cj_machine.specs.Stepping.{marks_told}
 use Rattle.cj_engine.specs.Engines.{CanTurn}
 use Rattle.cj_machine.proofs.Arms.{place_is, turn_at_base, turn_at_version, marks_at_base, marks_at_version}
 use Rattle.cj_engine.proofs.Fitting.{IsBaseTop, base_top, line_instr, base_fits, IsVersionTop, version_top, version_fits}
@@ -71,8 +72,8 @@ abbrev IsCarried : Program → List ℤ → State → Step → Codes → Option 
 IsCarried P args now step later look final = (turn : Turn) (before : State) → IsStep P turn args before now step → turn later look ≡ final
 
 -- A base frame on top, at a line that was found.
-module _ {P : Program} {codes : Codes} {s : State} {f : FunId} {label : Label} {line : Line} (can : CanTurn P codes s)
-    (position : position_of s.stack.top ≡ Base f label) (found : line_at P f label ≡ Some line) where
+module _ {P : Program} {codes : Codes} {s : State} {f : FunId} {label : Label} {line : Line} (can : CanTurn P codes s) (position : position_of s.stack.top
+    ≡ Base f label) (found : line_at P f label ≡ Some line) where
   top_here : IsBaseTop P s.stack.top f label
   top_here = base_top P codes s.base_turns s.stack.top f label position can.top
 
@@ -115,14 +116,17 @@ module _ {P : Program} {codes : Codes} {s : State} {f : FunId} {label : Label} {
         ∙ ap (λ (g : FunId). marks_told step g top_here.frame.label args) top_here.function ∙ ap (λ (l : Label). marks_told step f l args) top_here.at_label
 
 -- A version on top.
-module _ {P : Program} {codes : Codes} {s : State} {f : FunId} {offset : ℕ} {label : Label} (can : CanTurn P codes s)
-    (position : position_of s.stack.top ≡ Version f offset label) where
+module _ {P : Program} {codes : Codes} {s : State} {f : FunId} {offset : ℕ} {label : Label} (can : CanTurn P codes s) (position : position_of s.stack.top
+    ≡ Version f offset label) where
   version_here : IsVersionTop P codes s.base_turns s.stack.top f offset label
   version_here = version_top P codes s.base_turns s.stack.top f offset label position can.top
 
   pub version_there : (instr : VInstr) × StandsAt codes f offset label instr
-  version_there = (version_here.place.instr,
-      record { code = version_here.code; place = version_here.place; found = version_here.found; at = version_here.at; is = refl })
+  version_there = (
+    version_here.place.instr,
+    record
+        { code = version_here.code; place = version_here.place; found = version_here.found; at = version_here.at; is = refl },
+  )
 
   -- at an instruction that was found
   module _ {instr : VInstr} (there : StandsAt codes f offset label instr) where
@@ -137,8 +141,11 @@ module _ {P : Program} {codes : Codes} {s : State} {f : FunId} {offset : ℕ} {l
     version_few = version_here.few_regs
 
     pub version_fine : (labels : ℕ) × IsVInstrFine P (length (active_regs s.stack.top)) labels instr
-    version_fine = (length version_here.code.places,
-        subst (IsVInstrFine P (length (active_regs s.stack.top)) (length version_here.code.places)) same_instr version_here.fine)
+    version_fine = (
+      length version_here.code.places,
+      subst (IsVInstrFine P (length (active_regs s.stack.top)) (length version_here.code.places)) same_instr
+          version_here.fine,
+    )
 
     pub version_back : CanGoBack s.base_turns instr
     version_back = subst (CanGoBack s.base_turns) same_instr version_here.back
@@ -181,7 +188,7 @@ module _ {P : Program} {codes : Codes} {s : State} {f : FunId} {offset : ℕ} {l
           let look : Option Look = slice_get found_looks (length first) in
           subst (λ (xs : List Look). version_turn P later (slice_get found_looks (length xs)) s ≡ final) same
           (turn_at_version P later look s v version_here.code version_here.place version_here.top
-              (grows v.function v.offset version_here.code version_here.found_own) version_here.at_own
+          (grows v.function v.offset version_here.code version_here.found_own) version_here.at_own
           ∙ ap (λ (i : VInstr). version_turn_by P later look s v (version_effect i v.regs s.memory)) same_instr ∙ carried _ s (made.made P v version_here.top))
 
       pub version_turn_over : {later : Codes} {final : Progress} (look : Option Look) → Grows codes later → IsCarried P args now step later look final →
@@ -189,14 +196,14 @@ module _ {P : Program} {codes : Codes} {s : State} {f : FunId} {offset : ℕ} {l
       version_turn_over {later} {final} look grows carried =
           let v : VersionFrame = version_here.frame in
           turn_at_version P later look s v version_here.code version_here.place version_here.top
-              (grows v.function v.offset version_here.code version_here.found_own) version_here.at_own
+          (grows v.function v.offset version_here.code version_here.found_own) version_here.at_own
           ∙ ap (λ (i : VInstr). version_turn_by P later look s v (version_effect i v.regs s.memory)) same_instr ∙ carried _ s (made.made P v version_here.top)
 
       pub version_marks_done : (later : Codes) → Grows codes later → turn_marks P later s ≡ marks_told step f label args
       version_marks_done later grows =
           let v : VersionFrame = version_here.frame in
           marks_at_version P later s v version_here.code version_here.place version_here.top
-              (grows v.function v.offset version_here.code version_here.found_own) version_here.at_own
+          (grows v.function v.offset version_here.code version_here.found_own) version_here.at_own
           ∙ ap (λ (i : VInstr). version_marks v (version_effect i v.regs s.memory)) same_instr ∙ made.marks v version_here.top
           ∙ ap (λ (h : FunId). marks_told step h v.label args) version_here.function ∙ ap (λ (l : Label). marks_told step f l args) version_here.at_label
 

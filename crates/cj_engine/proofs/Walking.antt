@@ -37,10 +37,10 @@ walk_under_way P looks limit s w before =
 -- and after a turn that goes on so can a further one
 pub walk_goes : (P Q : Program) (looks later : List Look) (limit : ℕ) (s t : State) (answer : Turned) → Q ≡ P → Walks P looks limit s → s.turns < limit
     → ((call : Begun) → IsRun P no_codes looks call s → s.turns < call.limit → RunGoes P no_codes later call answer t) → answer ≡ Running →
-        Walks Q later limit t
+    Walks Q later limit t
 walk_goes P Q looks later limit s t answer same w before goes is =
     let run : RunGoes P no_codes later w.call Running t = subst (λ (a : Turned). RunGoes P no_codes later w.call a t) is
-        (goes w.call w.run (subst (λ (n : ℕ). s.turns < n) (sym w.same) before)) in
+    (goes w.call w.run (subst (λ (n : ℕ). s.turns < n) (sym w.same) before)) in
     subst (λ (R : Program). Walks R later limit t) (sym same) (record { call = w.call; same = w.same; run = run })
 
 -- ---- one version

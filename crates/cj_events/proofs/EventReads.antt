@@ -16,8 +16,8 @@ use Rattle.cj_script.proofs.Turns.{all_reads}
 use Rattle.cj_script.proofs.CallsReads.{refuse_or}
 use Rattle.cj_events.specs.declared.events.Event.{Event}
 use Rattle.cj_events.specs.declared.events.Event.TheVariants.{Begin, Compile}
-use Rattle.cj_events.specs.Meaning.{run_offences, count_offences, passes_offences, passes_of, begin_offences, begin_of, step_offences, step_of,
-    compile_offences, compile_of, event_offences, event_of, events_offences, events_of, history_offences, history_of}
+use Rattle.cj_events.specs.Meaning.{run_offences, count_offences, passes_offences, passes_of, begin_offences, begin_of, step_offences, step_of}
+use Rattle.cj_events.specs.Meaning.{compile_offences, compile_of, event_offences, event_of, events_offences, events_of, history_offences, history_of}
 use Rattle.cj_events.specs.Reading.{is_pass, begin_at, step_at, compiled_at, compile_at, event_at, is_event, next_event, events_at, history_at}
 use Rattle.cj_events.specs.Rules.{passes, begin_event, step_event, compile_event, event, events, history}
 use Rattle.cj_events.specs.Tallies.{runs, limits, counts, compiles, tally_of}
@@ -30,10 +30,10 @@ unfolding begin_event begin_at begin_offences begin_of tally_of front behind
 begin_reads functions earlier (word, call) ts =
     refuse_or (nat_le 256 (runs earlier)) word.token TooMany (begun_offences functions (pos (limits earlier)) call) (Begin (begun_of functions call)) ts _
     (rw (begun_reads functions (limits earlier) call ts)
-        (reads_last (begun_offences functions (pos (limits earlier)) call) (begun_of functions call) _ ts ts _ refl))
+    (reads_last (begun_offences functions (pos (limits earlier)) call) (begun_of functions call) _ ts ts _ refl))
 
-step_reads : (earlier : List Event) (t : Tree step_event) (ts : List Lexeme) →
-    step_at (tally_of earlier) (leaves step_event t ++ ts) ≡ reads (step_offences earlier t) (step_of t) ts
+step_reads : (earlier : List Event) (t : Tree step_event) (ts : List Lexeme) → step_at (tally_of earlier) (leaves step_event t ++ ts)
+    ≡ reads (step_offences earlier t) (step_of t) ts
 unfolding step_event step_at step_offences step_of tally_of front behind
 step_reads earlier (word, (run, count)) ts =
     judged_then (run_offences (runs earlier) run.token) (count_offences (counts earlier) count.token) (unsigned_abs run.token.number) _ ts _
@@ -63,9 +63,9 @@ unfolding compile_event compile_at compiled_at compile_offences compile_of tally
 compile_reads functions earlier (word, (name, (open_brace, (items, close_brace)))) ts =
     let us : List Lexeme = close_brace.token ∷ ts in
     let regroup : (leaves passes items ++ (close_brace.token ∷ [])) ++ ts ≡ leaves passes items
-        ++ us = append_assoc (leaves passes items) (close_brace.token ∷ []) ts in
+    ++ us = append_assoc (leaves passes items) (close_brace.token ∷ []) ts in
     refuse_or (nat_le 256 (compiles earlier)) word.token TooMany (function_offences functions name.token ++ passes_offences items)
-        (Compile (id_named functions name.token) (passes_of items)) ts _
+    (Compile (id_named functions name.token) (passes_of items)) ts _
     (judged_then (function_offences functions name.token) (passes_offences items) (id_named functions name.token) _ ts _
     (rw (regroup, passes_read items us (brace_ends close_brace.token ts close_brace.is) (no_pass close_brace.token ts close_brace.is))
     (reads_last (passes_offences items) (passes_of items) _ us ts _ refl)))
@@ -89,14 +89,14 @@ unfolding event event_at event_offences event_of
 event_reads functions earlier (inl t) ts =
     (rw (begin_next t ts) refl, rw (begin_next t ts) (begin_reads functions earlier t ts))
 event_reads functions earlier (inr (inl t)) ts =
-    let no_begin : is_terminal terminal.Begin (front (leaves step_event t ++ ts)) ≡ false = other_terminal terminal.Step terminal.Begin
-        (front (leaves step_event t ++ ts)) (step_next t ts) refl in
+    let no_begin : is_terminal terminal.Begin (front (leaves step_event t ++ ts))
+    ≡ false = other_terminal terminal.Step terminal.Begin (front (leaves step_event t ++ ts)) (step_next t ts) refl in
     (rw (no_begin, step_next t ts) refl, rw (no_begin, step_next t ts) (step_reads earlier t ts))
 event_reads functions earlier (inr (inr t)) ts =
-    let no_begin : is_terminal terminal.Begin (front (leaves compile_event t ++ ts)) ≡ false = other_terminal terminal.Compile terminal.Begin
-        (front (leaves compile_event t ++ ts)) (compile_next t ts) refl in
-    let no_step : is_terminal terminal.Step (front (leaves compile_event t ++ ts)) ≡ false = other_terminal terminal.Compile terminal.Step
-        (front (leaves compile_event t ++ ts)) (compile_next t ts) refl in
+    let no_begin : is_terminal terminal.Begin (front (leaves compile_event t ++ ts))
+    ≡ false = other_terminal terminal.Compile terminal.Begin (front (leaves compile_event t ++ ts)) (compile_next t ts) refl in
+    let no_step : is_terminal terminal.Step (front (leaves compile_event t ++ ts))
+    ≡ false = other_terminal terminal.Compile terminal.Step (front (leaves compile_event t ++ ts)) (compile_next t ts) refl in
     (rw (no_begin, no_step, compile_next t ts) refl, rw (no_begin, no_step) (compile_reads functions earlier t ts))
 
 pub events_read : (functions : List Function) (t : Tree events) (ts : List Lexeme) → is_event ts ≡ false →
@@ -104,7 +104,7 @@ pub events_read : (functions : List Function) (t : Tree events) (ts : List Lexem
 unfolding events events_at events_offences events_of front
 events_read functions t ts h =
     all_reads is_event (next_event functions) refl (next_shorter functions) (leaves event) (event_offences functions) (event_of functions) [] t ts
-        (event_reads functions) h
+    (event_reads functions) h
 
 no_event : (t : Lexeme) (ts : List Lexeme) → is_terminal terminal.End t ≡ true → is_event (t ∷ ts) ≡ false
 unfolding front

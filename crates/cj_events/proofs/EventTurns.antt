@@ -48,7 +48,7 @@ compile_within : (functions : List Function) (tally : Tally) (ts : List Lexeme) 
 unfolding compile_at
 compile_within functions tally ts =
     cond_within (nat_le 256 tally.compiles) (length (behind ts)) _ _ (err_within Event (length (behind ts)) (offence (front ts) TooMany))
-        (compiled_within functions (behind ts))
+    (compiled_within functions (behind ts))
 
 event_within : (functions : List Function) (tally : Tally) (ts : List Lexeme) → Within Event (length (behind ts)) (event_at functions tally ts)
 unfolding event_at

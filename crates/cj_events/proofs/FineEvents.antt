@@ -1,6 +1,6 @@
 -- Events whose tokens have no offence fit their program.
-use Rattle.std.proofs.Common.{◌≡◌, ℕ, Bool, ◌+◌, ◌<◌, ◌≤◌, pos, true, false, List, [], ◌∷◌, ◌++◌, length, All, refl, ◌∙◌, inl, inr, append_assoc,
-    length-append, arith}
+use Rattle.std.proofs.Common.{◌≡◌, ℕ, Bool, ◌+◌, ◌<◌, ◌≤◌, pos, true, false, List, [], ◌∷◌, ◌++◌, length, All, refl, ◌∙◌, inl, inr, append_assoc, length-append}
+use Rattle.std.proofs.Common.{arith}
 use Rattle.std.specs.Prelude.{Ok, Some, None, map, nat_le}
 use Rattle.std.proofs.lemmas.Bool.Decides.{nat_tests}
 use Rattle.std.proofs.lemmas.List.{append-nil}
@@ -25,13 +25,13 @@ use Rattle.cj_script.proofs.Offences.{none_of, none_highest, in_range, limit_fin
 use Rattle.cj_script.proofs.ScriptFits.{begun_fits}
 use Rattle.cj_events.specs.declared.events.Event.{Event}
 use Rattle.cj_events.specs.Fitting.{FitsLabel, FitsLabels, FitsGuard, FitsGuards, FitsPass, FitsEvent, EachFits, FitsEvents}
-use Rattle.cj_events.specs.Meaning.{label_of, label_offences, listed_offences, labels_offences, labels_of, ninth_offences, guard_offences, guard_of,
-    guards_offences, guards_of, pass_word_offences, anchors_offences, anchors_of, assume_offences, assume_of, delay_offences, delay_of, const_offences,
-    const_of, inline_offences, inline_of, pass_offences, pass_of, passes_offences, passes_of, event_word_offences, run_offences, count_offences,
-    begin_offences, begin_of, step_offences, step_of, compile_offences, compile_of, event_offences, event_of, events_offences, events_of, history_offences,
-    history_of}
-use Rattle.cj_events.specs.Rules.{labels, equation, guard, more_guards, guards, anchors_pass, assume_pass, delay_pass, const_pass, inline_pass, any_pass,
-    passes, begin_event, step_event, compile_event, event, events, history}
+use Rattle.cj_events.specs.Meaning.{label_of, label_offences, listed_offences, labels_offences, labels_of, ninth_offences, guard_offences, guard_of}
+use Rattle.cj_events.specs.Meaning.{guards_offences, guards_of, pass_word_offences, anchors_offences, anchors_of, assume_offences, assume_of, delay_offences}
+use Rattle.cj_events.specs.Meaning.{delay_of, const_offences, const_of, inline_offences, inline_of, pass_offences, pass_of, passes_offences, passes_of}
+use Rattle.cj_events.specs.Meaning.{event_word_offences, run_offences, count_offences, begin_offences, begin_of, step_offences, step_of, compile_offences}
+use Rattle.cj_events.specs.Meaning.{compile_of, event_offences, event_of, events_offences, events_of, history_offences, history_of}
+use Rattle.cj_events.specs.Rules.{labels, equation, guard, more_guards, guards, anchors_pass, assume_pass, delay_pass, const_pass, inline_pass, any_pass}
+use Rattle.cj_events.specs.Rules.{passes, begin_event, step_event, compile_event, event, events, history}
 use Rattle.cj_events.specs.Tallies.{runs, limits, counts, compiles, tally_of, IsWithin}
 use Rattle.cj_events.specs.OneEvent.{counted}
 use Rattle.cj_events.proofs.Tallied.{tally_more}
@@ -45,7 +45,7 @@ each_keeps : {T X : Type 0} (P : List X → Type 0) (offends : List X → T → 
 each_keeps P offends means keeps earlier [] p h = rw append-nil p
 each_keeps P offends means keeps earlier (t ∷ items) p h =
     let both : (offends earlier t ≡ []) × (each_offends offends means (earlier ++ means t ∷ []) items ≡ []) = none_of (offends earlier t)
-        (each_offends offends means (earlier ++ means t ∷ []) items) h in
+    (each_offends offends means (earlier ++ means t ∷ []) items) h in
     let all : (earlier ++ means t ∷ []) ++ map means items ≡ earlier ++ (means t ∷ map means items) = append_assoc earlier (means t ∷ []) (map means items) in
     rw (← all) (each_keeps P offends means keeps (earlier ++ means t ∷ []) items (keeps earlier t p both.0) both.1)
 
@@ -78,8 +78,8 @@ labels_keep : (earlier : List Label) (t : Leaf (Is terminal.Number)) → Few Fit
     Few FitsLabel 64 (earlier ++ label_of t.token ∷ [])
 labels_keep earlier t p h =
     let both : (offends_if (nat_le 64 (length earlier)) t.token TooMany ≡ [])
-        × (label_offences t.token ≡ []) = none_of (offends_if (nat_le 64 (length earlier)) t.token TooMany) (label_offences t.token)
-        (none_highest (offends_if (nat_le 64 (length earlier)) t.token TooMany ++ label_offences t.token) h) in
+    × (label_offences t.token ≡ []) = none_of (offends_if (nat_le 64 (length earlier)) t.token TooMany) (label_offences t.token)
+    (none_highest (offends_if (nat_le 64 (length earlier)) t.token TooMany ++ label_offences t.token) h) in
     one_more FitsLabel 64 earlier (label_of t.token) p (room 64 (length earlier) t.token both.0) (label_fits t.token both.1)
 
 labels_fit : (t : Tree labels) → labels_offences t ≡ [] → FitsLabels (labels_of t)
@@ -87,7 +87,7 @@ unfolding labels numbers labels_offences labels_of
 labels_fit (first, more) h =
     let all : Few FitsLabel 64 (map (λ t. label_of t.token) (first ∷ more)) =
     each_keeps (Few FitsLabel 64) (λ earlier t. listed_offences (length earlier) t.token) (λ t. label_of t.token) labels_keep [] (first ∷ more)
-        (none FitsLabel 64) h in
+    (none FitsLabel 64) h in
     (omega arith, all.few, all.fit)
 
 -- ---- guards
@@ -95,9 +95,10 @@ labels_fit (first, more) h =
 guard_fits : (earlier : ℕ) (t : Tree guard) → guard_offences earlier t ≡ [] → (earlier < 8) × FitsGuard (guard_of t)
 unfolding guard equation guard_offences guard_of
 guard_fits earlier (inl (register, (sign, value))) h =
-    let both : (ninth_offences earlier register.token ≡ []) × (out_of_range (pos 0) (pos 127) register.token ≡ []) = none_of
-        (ninth_offences earlier register.token) (out_of_range (pos 0) (pos 127) register.token)
-        (none_highest (ninth_offences earlier register.token ++ out_of_range (pos 0) (pos 127) register.token) h) in
+    let both : (ninth_offences earlier register.token ≡ [])
+    × (out_of_range (pos 0) (pos 127) register.token ≡ []) = none_of (ninth_offences earlier register.token)
+    (out_of_range (pos 0) (pos 127) register.token)
+    (none_highest (ninth_offences earlier register.token ++ out_of_range (pos 0) (pos 127) register.token) h) in
     (room 8 earlier register.token both.0, (in_range 0 127 register.token both.1).2)
 guard_fits earlier (inr never) h = (room 8 earlier never.token h, tt)
 
@@ -115,7 +116,7 @@ guards_fit (when, (first, more)) h =
     let g : (0 < 8) × FitsGuard (guard_of first) = guard_fits 0 first both.0 in
     let all : Few FitsGuard 8 ((guard_of first ∷ []) ++ map (λ next. guard_of next.1) more) =
     each_keeps (Few FitsGuard 8) (λ earlier next. guard_offences (length earlier) next.1) (λ next. guard_of next.1) guards_keep (guard_of first ∷ []) more
-        (one_more FitsGuard 8 [] (guard_of first) (none FitsGuard 8) g.0 g.1) both.1 in
+    (one_more FitsGuard 8 [] (guard_of first) (none FitsGuard 8) g.0 g.1) both.1 in
     (omega arith, all.few, all.fit)
 
 -- ---- passes
@@ -123,23 +124,25 @@ guards_fit (when, (first, more)) h =
 anchors_fit : (earlier : ℕ) (t : Tree anchors_pass) → anchors_offences earlier t ≡ [] → (earlier < 256) × FitsPass (anchors_of t)
 unfolding anchors_pass anchors_offences anchors_of
 anchors_fit earlier (word, places) h =
-    let both : (pass_word_offences earlier word.token ≡ []) × (labels_offences places ≡ []) = none_of (pass_word_offences earlier word.token)
-        (labels_offences places) h in
+    let both : (pass_word_offences earlier word.token ≡ [])
+    × (labels_offences places ≡ []) = none_of (pass_word_offences earlier word.token) (labels_offences places) h in
     (room 256 earlier word.token both.0, labels_fit places both.1)
 
 assume_fits : (earlier : ℕ) (t : Tree assume_pass) → assume_offences earlier t ≡ [] → (earlier < 256) × FitsPass (assume_of t)
 unfolding assume_pass assume_offences assume_of
 assume_fits earlier (word, (anchor, tests)) h =
-    let both : (pass_word_offences earlier word.token ≡ []) × (label_offences anchor.token ++ guards_offences tests ≡ []) = none_of
-        (pass_word_offences earlier word.token) (label_offences anchor.token ++ guards_offences tests) h in
+    let both : (pass_word_offences earlier word.token ≡ [])
+    × (label_offences anchor.token ++ guards_offences tests ≡ []) = none_of (pass_word_offences earlier word.token) (label_offences anchor.token
+    ++ guards_offences tests) h in
     let inner : (label_offences anchor.token ≡ []) × (guards_offences tests ≡ []) = none_of (label_offences anchor.token) (guards_offences tests) both.1 in
     (room 256 earlier word.token both.0, (label_fits anchor.token inner.0, guards_fit tests inner.1))
 
 delay_fits : (earlier : ℕ) (t : Tree delay_pass) → delay_offences earlier t ≡ [] → (earlier < 256) × FitsPass (delay_of t)
 unfolding delay_pass delay_offences delay_of
 delay_fits earlier (word, (path, tests)) h =
-    let both : (pass_word_offences earlier word.token ≡ []) × (labels_offences path ++ guards_offences tests ≡ []) = none_of
-        (pass_word_offences earlier word.token) (labels_offences path ++ guards_offences tests) h in
+    let both : (pass_word_offences earlier word.token ≡ [])
+    × (labels_offences path ++ guards_offences tests ≡ []) = none_of (pass_word_offences earlier word.token)
+    (labels_offences path ++ guards_offences tests) h in
     let inner : (labels_offences path ≡ []) × (guards_offences tests ≡ []) = none_of (labels_offences path) (guards_offences tests) both.1 in
     (room 256 earlier word.token both.0, (labels_fit path inner.0, guards_fit tests inner.1))
 
@@ -150,8 +153,8 @@ const_fits earlier word h = (room 256 earlier word.token h, tt)
 inline_fits : (earlier : ℕ) (t : Tree inline_pass) → inline_offences earlier t ≡ [] → (earlier < 256) × FitsPass (inline_of t)
 unfolding inline_pass inline_offences inline_of
 inline_fits earlier (word, call) h =
-    let both : (pass_word_offences earlier word.token ≡ []) × (label_offences call.token ≡ []) = none_of (pass_word_offences earlier word.token)
-        (label_offences call.token) h in
+    let both : (pass_word_offences earlier word.token ≡ [])
+    × (label_offences call.token ≡ []) = none_of (pass_word_offences earlier word.token) (label_offences call.token) h in
     (room 256 earlier word.token both.0, label_fits call.token both.1)
 
 pass_fits : (earlier : ℕ) (t : Tree any_pass) → pass_offences earlier t ≡ [] → (earlier < 256) × FitsPass (pass_of t)
@@ -186,9 +189,9 @@ limit_within functions spent (name, (args, (None, (word, limit)))) h =
     (limit_fine spent limit.token (none_of (callee_offences functions (length args) name.token) (limit_offences (pos spent) limit.token) h).1).2
 limit_within functions spent (name, (args, (Some (memory, cells), (word, limit)))) h =
     (limit_fine spent limit.token
-        (none_of (out_of_range (pos 0) (pos 65536) cells.token) (limit_offences (pos spent) limit.token)
-        (none_of (callee_offences functions (length args) name.token) (out_of_range (pos 0) (pos 65536) cells.token ++ limit_offences (pos spent) limit.token)
-        h).1).1).2
+    (none_of (out_of_range (pos 0) (pos 65536) cells.token) (limit_offences (pos spent) limit.token)
+    (none_of (callee_offences functions (length args) name.token) (out_of_range (pos 0) (pos 65536) cells.token ++ limit_offences (pos spent) limit.token)
+    h).1).1).2
 
 -- ---- events
 
@@ -201,20 +204,27 @@ begin_fits : (functions : List Function) (earlier : List Event) (t : Tree begin_
     FitsBehind functions earlier (begin_of functions t)
 unfolding begin_event begin_offences begin_of counted tally_of
 begin_fits functions earlier (word, call) h =
-    let both : (event_word_offences (runs earlier) word.token ≡ []) × (begun_offences functions (pos (limits earlier)) call ≡ []) = none_of
-        (event_word_offences (runs earlier) word.token) (begun_offences functions (pos (limits earlier)) call) h in
+    let both : (event_word_offences (runs earlier) word.token ≡ [])
+    × (begun_offences functions (pos (limits earlier)) call ≡ []) = none_of (event_word_offences (runs earlier) word.token)
+    (begun_offences functions (pos (limits earlier)) call) h in
     let few : runs earlier < 256 = room 256 (runs earlier) word.token both.0 in
     record {
       fits = begun_fine functions (limits earlier) call both.1;
-      within = λ w. record { few_runs = omega arith; few_turns = limit_within functions (limits earlier) call both.1; few_steps = w.few_steps;
-          few_compiles = w.few_compiles };
+      within = λ w. record {
+        few_runs = omega arith;
+        few_turns = limit_within functions (limits earlier) call both.1;
+        few_steps = w.few_steps;
+        few_compiles =
+            w.few_compiles;
+      };
     }
 
 step_fits : (functions : List Function) (earlier : List Event) (t : Tree step_event) → step_offences earlier t ≡ [] → FitsBehind functions earlier (step_of t)
 unfolding step_event step_offences step_of counted tally_of
 step_fits functions earlier (word, (run, count)) h =
-    let both : (run_offences (runs earlier) run.token ≡ []) × (count_offences (counts earlier) count.token ≡ []) = none_of
-        (run_offences (runs earlier) run.token) (count_offences (counts earlier) count.token) h in
+    let both : (run_offences (runs earlier) run.token ≡ [])
+    × (count_offences (counts earlier) count.token ≡ []) = none_of (run_offences (runs earlier) run.token)
+    (count_offences (counts earlier) count.token) h in
     let r = in_range 1 (runs earlier) run.token both.0 in
     let c = limit_fine (counts earlier) count.token both.1 in
     record {
@@ -226,10 +236,11 @@ compile_fits : (functions : List Function) (earlier : List Event) (t : Tree comp
     FitsBehind functions earlier (compile_of functions t)
 unfolding compile_event compile_offences compile_of counted tally_of
 compile_fits functions earlier (word, (name, (open_brace, (items, close_brace)))) h =
-    let both : (event_word_offences (compiles earlier) word.token ≡ []) × (function_offences functions name.token ++ passes_offences items ≡ []) = none_of
-        (event_word_offences (compiles earlier) word.token) (function_offences functions name.token ++ passes_offences items) h in
-    let inner : (function_offences functions name.token ≡ []) × (passes_offences items ≡ []) = none_of (function_offences functions name.token)
-        (passes_offences items) both.1 in
+    let both : (event_word_offences (compiles earlier) word.token ≡ [])
+    × (function_offences functions name.token ++ passes_offences items ≡ []) = none_of (event_word_offences (compiles earlier) word.token)
+    (function_offences functions name.token ++ passes_offences items) h in
+    let inner : (function_offences functions name.token ≡ [])
+    × (passes_offences items ≡ []) = none_of (function_offences functions name.token) (passes_offences items) both.1 in
     let found = function_fine functions name.token inner.0 in
     let few : compiles earlier < 256 = room 256 (compiles earlier) word.token both.0 in
     let all : Few FitsPass 256 (passes_of items) = passes_fit items inner.1 in

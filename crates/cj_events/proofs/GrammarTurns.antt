@@ -8,8 +8,8 @@ use Rattle.cj_grammar.specs.Rules.{one, ◌▸◌}
 use Rattle.cj_grammar.proofs.Ahead.{begun_by, not_begun_by}
 use Rattle.cj_grammar.proofs.Begins.{shorter}
 use Rattle.cj_grammar.proofs.Repeats.{many_goes, many_stops}
-use Rattle.cj_events.specs.Rules.{guard, more_guards, anchors_pass, assume_pass, delay_pass, const_pass, inline_pass, any_pass, passes, begin_event,
-    step_event, compile_event, event, events}
+use Rattle.cj_events.specs.Rules.{guard, more_guards, anchors_pass, assume_pass, delay_pass, const_pass, inline_pass, any_pass, passes, begin_event, step_event}
+use Rattle.cj_events.specs.Rules.{compile_event, event, events}
 
 pub more_guards_go : (a : List Lexeme) → is_terminal Comma (front a) ≡ true → eat more_guards a ≡ (eat (one Comma ▸ guard) a >>= eat more_guards)
 unfolding more_guards

@@ -29,7 +29,7 @@ pub guard_within : (earlier : ℕ) (ts : List Lexeme) → Within Guard (length (
 unfolding guard_at
 guard_within earlier ts =
     cond_within (is_terminal terminal.Never (front (behind ts))) (length (behind ts)) _ _ (never_within earlier (behind ts))
-        (equation_within earlier (behind ts))
+    (equation_within earlier (behind ts))
 
 pub guard_shorter : (earlier : ℕ) (ts : List Lexeme) (x : Guard × List Lexeme) → is_comma ts ≡ true → guard_at earlier ts ≡ Ok x → length x.1 < length ts
 unfolding front

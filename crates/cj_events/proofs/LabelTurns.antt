@@ -13,7 +13,7 @@ pub label_within : (earlier : ℕ) (ts : List Lexeme) → Within Label (length t
 unfolding label_at
 label_within earlier ts =
     judged_within (listed_offences earlier (front ts)) (label_of (front ts)) (length ts) _
-        (ok_within (label_of (front ts)) (length ts) (behind ts) (behind_within ts))
+    (ok_within (label_of (front ts)) (length ts) (behind ts) (behind_within ts))
 
 pub label_shorter : (earlier : ℕ) (ts : List Lexeme) (x : Label × List Lexeme) → is_number ts ≡ true → label_at earlier ts ≡ Ok x → length x.1 < length ts
 unfolding label_at front
@@ -21,7 +21,7 @@ label_shorter earlier ts x b h =
     let s : length (behind ts) < length ts = behind_shorter terminal.Number ts refl b in
     let w : Within Label (length (behind ts)) (label_at earlier ts) =
     judged_within (listed_offences earlier (front ts)) (label_of (front ts)) (length (behind ts)) _
-        (ok_within (label_of (front ts)) (length (behind ts)) (behind ts) (omega arith)) in
+    (ok_within (label_of (front ts)) (length (behind ts)) (behind ts) (omega arith)) in
     let l : length x.1 ≤ length (behind ts) = w.within x h in
     omega arith
 

@@ -21,8 +21,8 @@ module _ {X : Type 0} (Before : List Lexeme → Type 0) (more : List Lexeme → 
       (items : List T) (ts : List Lexeme) → Before ts → Before (flat_map spelled items ++ ts)
   before_all spelled b [] ts h = h
   before_all spelled b (t ∷ items) ts h =
-      let regroup : (spelled t ++ flat_map spelled items) ++ ts ≡ spelled t ++ (flat_map spelled items ++ ts) = append_assoc (spelled t)
-          (flat_map spelled items) ts in
+      let regroup : (spelled t ++ flat_map spelled items) ++ ts ≡ spelled t
+      ++ (flat_map spelled items ++ ts) = append_assoc (spelled t) (flat_map spelled items) ts in
       rw regroup (b t (flat_map spelled items ++ ts) (before_all spelled b items ts h))
 
   pub all_reads_before : {T : Type 0} (spelled : T → List Lexeme) (offends : List X → T → List Refused) (means : T → X) (earlier : List X) (items : List T)
@@ -40,10 +40,10 @@ module _ {X : Type 0} (Before : List Lexeme → Type 0) (more : List Lexeme → 
       rw regroup (go (offends earlier t) refl here (all_reads_before spelled offends means (earlier ++ means t ∷ []) items ts b r h m))
     where
       go : (es : List Refused) → offends earlier t ≡ es → ReadsItem more one spelled offends means earlier t (flat_map spelled items ++ ts) →
-          all_at more one (earlier ++ means t ∷ []) (flat_map spelled items ++ ts) ≡ reads (each_offends offends means (earlier ++ means t ∷ []) items)
-          ((earlier ++ means t ∷ []) ++ map means items) ts →
-          all_at more one earlier (spelled t ++ (flat_map spelled items ++ ts)) ≡ reads
-          (offends earlier t ++ each_offends offends means (earlier ++ means t ∷ []) items) (earlier ++ (means t ∷ map means items)) ts
+          all_at more one (earlier ++ means t ∷ []) (flat_map spelled items ++ ts)
+          ≡ reads (each_offends offends means (earlier ++ means t ∷ []) items) ((earlier ++ means t ∷ []) ++ map means items) ts →
+          all_at more one earlier (spelled t ++ (flat_map spelled items ++ ts))
+          ≡ reads (offends earlier t ++ each_offends offends means (earlier ++ means t ∷ []) items) (earlier ++ (means t ∷ map means items)) ts
       go [] o here ih =
           let us : List Lexeme = flat_map spelled items ++ ts in
           rw o (all_goes more one ends short earlier (spelled t ++ us) (means t, us) here.begins (here.read ∙ rw o refl)

@@ -19,13 +19,14 @@ use Rattle.cj_grammar.proofs.ReadsLaws.{reads_then, reads_last}
 use Rattle.cj_script.proofs.BegunReads.{judged_then, judged_last, other_terminal}
 use Rattle.cj_script.proofs.Turns.{all_reads}
 use Rattle.cj_script.proofs.CallsReads.{refuse_or}
-use Rattle.cj_events.specs.Meaning.{label_of, label_offences, listed_offences, labels_offences, labels_of, register_of, ninth_offences, register_offences,
-    guard_offences, guard_of, guards_offences, guards_of, pass_word_offences, anchors_offences, anchors_of, assume_offences, assume_of, delay_offences,
-    delay_of, const_offences, const_of, inline_offences, inline_of, pass_offences, pass_of, passes_offences, passes_of}
-use Rattle.cj_events.specs.Reading.{is_number, label_at, next_label, labels_at, is_comma, never_at, equation_at, guard_at, next_guard, more_guards_at,
-    guards_at, is_pass, anchors_at, assume_at, delay_at, inline_at, any_pass_at, pass_at, next_pass, passes_at}
-use Rattle.cj_events.specs.Rules.{labels, equation, guard, more_guards, guards, anchors_pass, assume_pass, delay_pass, const_pass, inline_pass, any_pass,
-    passes}
+use Rattle.cj_events.specs.Meaning.{label_of, label_offences, listed_offences, labels_offences, labels_of, register_of, ninth_offences, register_offences}
+use Rattle.cj_events.specs.Meaning.{guard_offences, guard_of, guards_offences, guards_of, pass_word_offences, anchors_offences, anchors_of, assume_offences}
+use Rattle.cj_events.specs.Meaning.{assume_of, delay_offences, delay_of, const_offences, const_of, inline_offences, inline_of, pass_offences, pass_of}
+use Rattle.cj_events.specs.Meaning.{passes_offences, passes_of}
+use Rattle.cj_events.specs.Reading.{is_number, label_at, next_label, labels_at, is_comma, never_at, equation_at, guard_at, next_guard, more_guards_at}
+use Rattle.cj_events.specs.Reading.{guards_at, is_pass, anchors_at, assume_at, delay_at, inline_at, any_pass_at, pass_at, next_pass, passes_at}
+use Rattle.cj_events.specs.Rules.{labels, equation, guard, more_guards, guards, anchors_pass, assume_pass, delay_pass, const_pass, inline_pass, any_pass}
+use Rattle.cj_events.specs.Rules.{passes}
 use Rattle.cj_events.proofs.GuardTurns as guard_turns
 use Rattle.cj_events.proofs.LabelTurns as label_turns
 use Rattle.cj_events.proofs.PassTurns as pass_turns
@@ -33,8 +34,7 @@ use Rattle.cj_events.proofs.ManyReads.{ReadsItem, all_reads_before}
 
 -- ---- labels
 
-listed_reads : (earlier : List Label) (t : Leaf (Is terminal.Number)) (ts : List Lexeme) →
-    (is_number (leaves (one terminal.Number) t ++ ts) ≡ true)
+listed_reads : (earlier : List Label) (t : Leaf (Is terminal.Number)) (ts : List Lexeme) → (is_number (leaves (one terminal.Number) t ++ ts) ≡ true)
     × (next_label earlier (leaves (one terminal.Number) t ++ ts) ≡ reads (listed_offences (length earlier) t.token) (label_of t.token) ts)
 unfolding label_at front behind
 listed_reads earlier t ts =
@@ -45,12 +45,12 @@ pub labels_read : (t : Tree labels) (ts : List Lexeme) → is_number ts ≡ fals
 unfolding labels numbers labels_at labels_offences labels_of front
 labels_read (first, more) ts h =
     all_reads is_number next_label refl label_turns.next_shorter (leaves (one terminal.Number)) (λ earlier t. listed_offences (length earlier) t.token)
-        (λ t. label_of t.token) [] (first ∷ more) ts listed_reads h
+    (λ t. label_of t.token) [] (first ∷ more) ts listed_reads h
 
 -- ---- guards
 
-guard_reads : (earlier : ℕ) (mark : Lexeme) (t : Tree guard) (ts : List Lexeme) →
-    guard_at earlier (mark ∷ (leaves guard t ++ ts)) ≡ reads (guard_offences earlier t) (guard_of t) ts
+guard_reads : (earlier : ℕ) (mark : Lexeme) (t : Tree guard) (ts : List Lexeme) → guard_at earlier (mark ∷ (leaves guard t ++ ts))
+    ≡ reads (guard_offences earlier t) (guard_of t) ts
 unfolding guard equation guard_at never_at equation_at guard_offences guard_of front behind
 guard_reads earlier mark (inl (register, (sign, value))) ts =
     let other : is_terminal terminal.Never register.token ≡ false = other_terminal terminal.Number terminal.Never register.token register.is refl in
@@ -75,11 +75,11 @@ unfolding guards more_guards guards_at more_guards_at guards_offences guards_of 
 guards_read (when, (first, more)) ts h =
     let us : List Lexeme = flat_map (leaves (one terminal.Comma ▸ guard)) more ++ ts in
     let regroup : (leaves guard first ++ flat_map (leaves (one terminal.Comma ▸ guard)) more) ++ ts ≡ leaves guard first
-        ++ us = append_assoc (leaves guard first) (flat_map (leaves (one terminal.Comma ▸ guard)) more) ts in
+    ++ us = append_assoc (leaves guard first) (flat_map (leaves (one terminal.Comma ▸ guard)) more) ts in
     rw (regroup, guard_reads 0 when.token first us)
     (reads_then (guard_offences 0 first) (each_offends next_offences next_means (guard_of first ∷ []) more) (guard_of first) _ us ts _
     (all_reads is_comma next_guard refl guard_turns.next_shorter (leaves (one terminal.Comma ▸ guard)) next_offences next_means
-        (guard_of first ∷ []) more ts next_reads h))
+    (guard_of first ∷ []) more ts next_reads h))
 
 -- ---- passes
 
@@ -124,7 +124,7 @@ unfolding assume_pass pass_at any_pass_at assume_at assume_offences assume_of fr
 assume_reads earlier (word, (anchor, tests)) ts h =
     let other : is_terminal terminal.Anchors word.token ≡ false = other_terminal terminal.Assume terminal.Anchors word.token word.is refl in
     refuse_or (nat_le 256 earlier) word.token TooMany (label_offences anchor.token ++ guards_offences tests)
-        (passes.Assume (label_of anchor.token) (guards_of tests)) ts _
+    (passes.Assume (label_of anchor.token) (guards_of tests)) ts _
     (rw (other, word.is) (judged_then (label_offences anchor.token) (guards_offences tests) (label_of anchor.token) _ ts _
     (rw (guards_read tests ts h.no_comma) (reads_last (guards_offences tests) (guards_of tests) _ ts ts _ refl))))
 
@@ -150,8 +150,8 @@ const_reads earlier word ts =
     let b : is_terminal terminal.Assume word.token ≡ false = other_terminal terminal.Const terminal.Assume word.token word.is refl in
     let c : is_terminal terminal.Delay word.token ≡ false = other_terminal terminal.Const terminal.Delay word.token word.is refl in
     let word_offences : List Refused = pass_word_offences earlier word.token in
-    let read : pass_at earlier (word.token ∷ ts) ≡ reads (word_offences ++ []) passes.Const ts = refuse_or
-        (nat_le 256 earlier) word.token TooMany [] passes.Const ts _ (rw (a, b, c, word.is) refl) in
+    let read : pass_at earlier (word.token ∷ ts)
+    ≡ reads (word_offences ++ []) passes.Const ts = refuse_or (nat_le 256 earlier) word.token TooMany [] passes.Const ts _ (rw (a, b, c, word.is) refl) in
     subst (λ (os : List Refused). pass_at earlier (word.token ∷ ts) ≡ reads os passes.Const ts) (append-nil word_offences) read
 
 inline_reads : (earlier : ℕ) (t : Tree inline_pass) (ts : List Lexeme) →

@@ -12,8 +12,8 @@ use Rattle.cj_tokens.specs.declared.terminal.Terminal.TheVariants as terminal
 use Rattle.cj_grammar.specs.Reading.{offence}
 use Rattle.cj_script.proofs.Turns.{behind_within, Within, ok_within, err_within, judged_within, then_within, cond_within, all_stops, all_fails, all_goes}
 use Rattle.cj_events.specs.Meaning.{label_of, label_offences}
-use Rattle.cj_events.specs.Reading.{is_number, next_label, labels_at, is_comma, guard_at, next_guard, more_guards_at, guards_at, is_pass, anchors_at,
-    assume_at, delay_at, inline_at, any_pass_at, pass_at, next_pass, passes_at}
+use Rattle.cj_events.specs.Reading.{is_number, next_label, labels_at, is_comma, guard_at, next_guard, more_guards_at, guards_at, is_pass, anchors_at, assume_at}
+use Rattle.cj_events.specs.Reading.{delay_at, inline_at, any_pass_at, pass_at, next_pass, passes_at}
 use Rattle.cj_events.proofs.GuardTurns.{guard_within}
 use Rattle.cj_events.proofs.LabelTurns.{label_within}
 use Rattle.cj_events.proofs.ManyTurns.{all_within}
@@ -28,8 +28,8 @@ more_guards_within earlier ts = all_within is_comma next_guard (λ before us. wi
   where
     widely : (n : ℕ) (us : List Lexeme) → Within Guard (length us) (guard_at n us)
     widely n us = record {
-      within = λ y h. let l : length y.1 ≤ length (behind us) = (guard_within n us).within y h in let m : length
-          (behind us) ≤ length us = behind_within us in omega arith;
+      within = λ y h. let l : length y.1 ≤ length (behind us) = (guard_within n us).within y h in let m : length (behind us)
+          ≤ length us = behind_within us in omega arith;
     }
 
 guards_within : (ts : List Lexeme) → Within (List Guard) (length ts) (guards_at ts)
@@ -116,6 +116,6 @@ passes_within earlier ts = all_within is_pass next_pass (λ before us. widely (l
   where
     widely : (n : ℕ) (us : List Lexeme) → Within Pass (length us) (pass_at n us)
     widely n us = record {
-      within = λ y h. let l : length y.1 ≤ length (behind us) = (pass_within n us).within y h in let m : length
-          (behind us) ≤ length us = behind_within us in omega arith;
+      within = λ y h. let l : length y.1 ≤ length (behind us) = (pass_within n us).within y h in let m : length (behind us)
+          ≤ length us = behind_within us in omega arith;
     }

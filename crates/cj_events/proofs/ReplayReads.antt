@@ -66,7 +66,7 @@ pub both_fit : (ts us left : List Lexeme) (p : Program) (happened : List Event) 
 unfolding replay
 both_fit ts us left p given gives then ((functions, (happened, last)), is) =
     let read = laws.first_read program_offences program_of history history_offences history_of replay_with no_function ts us p gives
-        (functions, (happened, last)) is in
+    (functions, (happened, last)) is in
     let second = laws.reads_ok (history_offences p happened) (history_of p happened) given _ left (then happened last.token [] read.rest last.is) in
     rw second.value (history_fits p happened second.fine)
 

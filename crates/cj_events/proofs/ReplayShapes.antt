@@ -6,12 +6,13 @@ use Rattle.cj_tokens.specs.Passing.{front}
 use Rattle.cj_grammar.specs.Grammar.{IsSentence}
 use Rattle.cj_grammar.specs.OneAhead.{eat}
 use Rattle.cj_grammar.specs.Reading.{offence}
-use Rattle.cj_grammar.specs.Rules.{operand, more_operands, operands, more_names, names, binary, expr, target, nop_instr, op_instr, cond_instr, call_instr,
-    return_instr, print_instr, load_instr, store_instr, fail_instr, instr, line, lines, head, fun, more_funs, funs, numbers, begun}
+use Rattle.cj_grammar.specs.Rules.{operand, more_operands, operands, more_names, names, binary, expr, target, nop_instr, op_instr, cond_instr, call_instr}
+use Rattle.cj_grammar.specs.Rules.{return_instr, print_instr, load_instr, store_instr, fail_instr, instr, line, lines, head, fun, more_funs, funs, numbers}
+use Rattle.cj_grammar.specs.Rules.{begun}
 use Rattle.cj_grammar.specs.Offences.{class_one, IsFirstOffence}
 use Rattle.cj_grammar.proofs.ClassOne.{first_offence, whole_sentence}
-use Rattle.cj_events.specs.Rules.{labels, equation, guard, more_guards, guards, anchors_pass, assume_pass, delay_pass, const_pass, inline_pass, any_pass,
-    passes, begin_event, step_event, compile_event, event, events, history, replay}
+use Rattle.cj_events.specs.Rules.{labels, equation, guard, more_guards, guards, anchors_pass, assume_pass, delay_pass, const_pass, inline_pass, any_pass}
+use Rattle.cj_events.specs.Rules.{passes, begin_event, step_event, compile_event, event, events, history, replay}
 
 pub replay_offence : (old rest : List Lexeme) → HasOneEnd old → eat replay old ≡ Err rest →
     IsFirstOffence replay old (offence (front rest) (class_one (front rest)))

@@ -12,12 +12,35 @@ none_more n = omega arith
 pub tally_more : (events : List Event) (event : Event) → tally_of (events ++ event ∷ []) ≡ counted (tally_of events) event
 unfolding tally_of counted
 tally_more events (Begin call) =
-    rw (sum_by_push begun_by events (Begin call), sum_by_push limit_by events (Begin call), sum_by_push count_by events (Begin call),
-        sum_by_push compiled_by events (Begin call), none_more (counts events), none_more (compiles events)) refl
+    rw (
+      sum_by_push begun_by events (Begin call),
+      sum_by_push limit_by events (Begin call),
+      sum_by_push count_by events
+          (Begin call),
+      sum_by_push compiled_by events (Begin call),
+      none_more (counts events),
+      none_more (compiles events),
+    ) refl
 tally_more events (Step run count) =
-    rw (sum_by_push begun_by events (Step run count), sum_by_push limit_by events (Step run count), sum_by_push count_by events (Step run count),
-        sum_by_push compiled_by events (Step run count), none_more (runs events), none_more (limits events), none_more (compiles events)) refl
+    rw (
+      sum_by_push begun_by events (Step run count),
+      sum_by_push limit_by events (Step run count),
+      sum_by_push count_by events
+          (Step run count),
+      sum_by_push compiled_by events (Step run count),
+      none_more (runs events),
+      none_more (limits events),
+      none_more (compiles events),
+    ) refl
 tally_more events (Compile function passes) =
-    rw (sum_by_push begun_by events (Compile function passes), sum_by_push limit_by events (Compile function passes),
-        sum_by_push count_by events (Compile function passes), sum_by_push compiled_by events (Compile function passes), none_more (runs events),
-        none_more (limits events), none_more (counts events)) refl
+    rw (
+      sum_by_push begun_by events (Compile function passes),
+      sum_by_push limit_by events (Compile function passes),
+      sum_by_push count_by events
+          (Compile function passes),
+      sum_by_push compiled_by events (Compile function passes),
+      none_more (runs events),
+      none_more (limits events),
+      none_more
+          (counts events),
+    ) refl

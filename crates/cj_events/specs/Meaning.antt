@@ -20,8 +20,8 @@ use Rattle.cj_script.specs.Meaning.{out_of_range, limit_offences, function_offen
 use Rattle.cj_grammar.specs.Rules.{numbers}
 use Rattle.cj_events.specs.declared.events.Event.{Event}
 use Rattle.cj_events.specs.declared.events.Event.TheVariants.{Begin, Step, Compile}
-use Rattle.cj_events.specs.Rules.{labels, equation, guard, more_guards, guards, anchors_pass, assume_pass, delay_pass, const_pass, inline_pass, any_pass,
-    passes, begin_event, step_event, compile_event, event, events, history}
+use Rattle.cj_events.specs.Rules.{labels, equation, guard, more_guards, guards, anchors_pass, assume_pass, delay_pass, const_pass, inline_pass, any_pass}
+use Rattle.cj_events.specs.Rules.{passes, begin_event, step_event, compile_event, event, events, history}
 use Rattle.cj_events.specs.Tallies.{runs, limits, counts, compiles}
 use Rattle.cj_events.specs.declared.limits.TheConstants.{MAX_EVENTS, MAX_LISTED, MAX_PASSES}
 

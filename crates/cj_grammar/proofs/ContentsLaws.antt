@@ -78,8 +78,8 @@ pub end_is_last : (r : Rule) (t : Tree r) (us more : List Lexeme) (e : Lexeme) �
 end_is_last (tok s) t us more e w h q = one_alone t.token e us more q
 end_is_last (seq a b) t us more e w h q =
     let p : (is_without a (Is End) ≡ true) × (is_ended b ≡ true) = and_true (is_without a (Is End)) (is_ended b) w in
-    let i : (vs : List Lexeme) × (leaves b t.1 ≡ vs ++ e ∷ more) × (us ≡ leaves a t.0 ++ vs) = in_second (Is End) (leaves a t.0) (leaves b t.1) us more e
-        (only_its_own a (Is End) t.0 p.0) h q in
+    let i : (vs : List Lexeme) × (leaves b t.1 ≡ vs ++ e ∷ more)
+    × (us ≡ leaves a t.0 ++ vs) = in_second (Is End) (leaves a t.0) (leaves b t.1) us more e (only_its_own a (Is End) t.0 p.0) h q in
     end_is_last b t.1 i.0 more e p.1 h i.1
 end_is_last (alt a b) (inl t) us more e w h q = end_is_last a t us more e (and_true (is_ended a) (is_ended b) w).0 h q
 end_is_last (alt a b) (inr t) us more e w h q = end_is_last b t us more e (and_true (is_ended a) (is_ended b) w).1 h q
@@ -96,7 +96,13 @@ lacks_second s (x ∷ xs) ys h = lacks_second s xs ys (and_true (not (fits s x))
 -- Where a sentence without an end is gone past, the end is left.
 pub end_stays : (r : Rule) (t : Tree r) (old new : List Lexeme) → is_without r (Is End) ≡ true → leaves r t ++ new ≡ old → HasOneEnd old → HasOneEnd new
 end_stays r t old new w q h =
-    let i : (vs : List Lexeme) × (new ≡ vs ++ h.last ∷ []) × (h.body ≡ leaves r t ++ vs) = in_second (Is End) (leaves r t) new h.body [] h.last
-        (only_its_own r (Is End) t w) h.is_end (q ∙ h.all) in
-    record { body = i.0; last = h.last; all = i.1; is_end = h.is_end;
-        once = lacks_second (Is End) (leaves r t) i.0 (subst (λ (z : List Lexeme). lacks (Is End) z ≡ true) i.2 h.once) }
+    let i : (vs : List Lexeme) × (new ≡ vs ++ h.last ∷ [])
+    × (h.body ≡ leaves r t ++ vs) = in_second (Is End) (leaves r t) new h.body [] h.last (only_its_own r (Is End) t w) h.is_end (q ∙ h.all) in
+    record {
+      body = i.0;
+      last = h.last;
+      all = i.1;
+      is_end = h.is_end;
+      once = lacks_second (Is End) (leaves r t) i.0
+          (subst (λ (z : List Lexeme). lacks (Is End) z ≡ true) i.2 h.once);
+    }

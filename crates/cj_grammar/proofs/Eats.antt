@@ -1,6 +1,6 @@
 -- What `eat` leaves: behind a sentence, or behind the front of one.
-use Rattle.std.proofs.Common.{◌≡◌, ℕ, zero, suc, Bool, true, false, cond, ◌⊎◌, List, [], ◌∷◌, ◌++◌, length, None, Some, Result, Ok, Err, refl, ap, sym, ◌∙◌,
-    append_assoc, inl, inr}
+use Rattle.std.proofs.Common.{◌≡◌, ℕ, zero, suc, Bool, true, false, cond, ◌⊎◌, List, [], ◌∷◌, ◌++◌, length, None, Some, Result, Ok, Err, refl, ap, sym, ◌∙◌}
+use Rattle.std.proofs.Common.{append_assoc, inl, inr}
 use Rattle.std.specs.Prelude.{flat_map}
 use Rattle.std.proofs.lemmas.List.{append-nil}
 use Rattle.cj_tokens.specs.Lexemes.{Lexeme, Sign, fits}
@@ -38,8 +38,8 @@ sound_many a s zero ts rest h = ([], let e : ts ≡ rest = cc in sym e)
 sound_many a s (suc n) ts rest h =
     elim (chosen (starts a ts) (eat a ts >>= eat_many (eat a) (starts a) n) (Ok ts) (Ok rest) h) [
       | inl p ↦
-          let b : (x : List Lexeme) × (eat a ts ≡ Ok x) × (eat_many (eat a) (starts a) n x ≡ Ok rest) = bind_ok (eat a ts)
-              (eat_many (eat a) (starts a) n) rest p.1 in
+          let b : (x : List Lexeme) × (eat a ts ≡ Ok x)
+          × (eat_many (eat a) (starts a) n x ≡ Ok rest) = bind_ok (eat a ts) (eat_many (eat a) (starts a) n) rest p.1 in
           let one : (t : Tree a) × (leaves a t ++ b.0 ≡ ts) = s ts b.0 b.1 in
           let more : (t : List (Tree a)) × (flat_map (leaves a) t ++ rest ≡ b.0) = sound_many a s n b.0 rest b.2 in
           (one.0 ∷ more.0, append_assoc (leaves a one.0) (flat_map (leaves a) more.0) rest ∙ (ap (λ x. leaves a one.0 ++ x) more.1 ∙ one.1))
@@ -104,7 +104,7 @@ stuck_many a s (suc n) ts rest h =
             let i : (u : List Lexeme) × (u ++ rest ≡ b.0) × IsFront (many a) u = stuck_many a s n b.0 rest b.2 in
             let e : (leaves a one.0 ++ i.0) ++ rest ≡ ts = append_assoc (leaves a one.0) i.0 rest ∙ (ap (λ x. leaves a one.0 ++ x) i.1 ∙ one.1) in
             let f : leaves a one.0 ++ flat_map (leaves a) i.2.1.0 ≡ (leaves a one.0 ++ i.0) ++ i.2.0 = ap (λ x. leaves a one.0 ++ x) i.2.1.1
-                ∙ sym (append_assoc (leaves a one.0) i.0 i.2.0) in
+            ∙ sym (append_assoc (leaves a one.0) i.0 i.2.0) in
             (leaves a one.0 ++ i.0, e, (i.2.0, (one.0 ∷ i.2.1.0, f)))
       ]
       | inr p ↦ cc
@@ -117,14 +117,14 @@ stuck (seq a b) ts rest h =
       | inl q ↦
           let i : (u : List Lexeme) × (u ++ rest ≡ ts) × IsFront a u = stuck a ts rest q in
           let e : leaves a i.2.1.0 ++ leaves b (any b) ≡ i.0 ++ (i.2.0 ++ leaves b (any b)) = ap (λ x. x ++ leaves b (any b)) i.2.1.1
-              ∙ append_assoc i.0 i.2.0 (leaves b (any b)) in
+          ∙ append_assoc i.0 i.2.0 (leaves b (any b)) in
           (i.0, i.1, (i.2.0 ++ leaves b (any b), ((i.2.1.0, any b), e)))
       | inr m ↦
           let one : (t : Tree a) × (leaves a t ++ m.0 ≡ ts) = sound a ts m.0 m.1 in
           let i : (u : List Lexeme) × (u ++ rest ≡ m.0) × IsFront b u = stuck b m.0 rest m.2 in
           let e : (leaves a one.0 ++ i.0) ++ rest ≡ ts = append_assoc (leaves a one.0) i.0 rest ∙ (ap (λ x. leaves a one.0 ++ x) i.1 ∙ one.1) in
           let f : leaves a one.0 ++ leaves b i.2.1.0 ≡ (leaves a one.0 ++ i.0) ++ i.2.0 = ap (λ x. leaves a one.0 ++ x) i.2.1.1
-              ∙ sym (append_assoc (leaves a one.0) i.0 i.2.0) in
+          ∙ sym (append_assoc (leaves a one.0) i.0 i.2.0) in
           (leaves a one.0 ++ i.0, e, (i.2.0, ((one.0, i.2.1.0), f)))
     ]
 stuck (alt a b) ts rest h =

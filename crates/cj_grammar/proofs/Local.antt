@@ -1,6 +1,6 @@
 -- What `eat` answers depends on no token behind the first one that it leaves.
-use Rattle.std.proofs.Common.{◌≡◌, ℕ, zero, suc, ◌+◌, ◌<◌, ◌≤◌, true, false, cond, List, [], ◌∷◌, ◌++◌, length, Result, Ok, Err, refl, ap, sym, ◌∙◌,
-    append_assoc, inl, inr, arith, length-append}
+use Rattle.std.proofs.Common.{◌≡◌, ℕ, zero, suc, ◌+◌, ◌<◌, ◌≤◌, true, false, cond, List, [], ◌∷◌, ◌++◌, length, Result, Ok, Err, refl, ap, sym, ◌∙◌}
+use Rattle.std.proofs.Common.{append_assoc, inl, inr, arith, length-append}
 use Rattle.std.specs.Prelude.{flat_map, not, ◌&&◌}
 use Rattle.cj_tokens.specs.Lexemes.{Lexeme, Sign, fits}
 use Rattle.cj_grammar.specs.Grammar.{Rule, tok, seq, alt, opt, many, Tree, leaves, IsFront}
@@ -141,14 +141,14 @@ pub local : (r : Rule) → Local r
 local (tok k) next u t s s' x p h = local_tok k next u t s s' x p h
 local (seq a b) next u t s s' x p h =
     let q : (is_plain a (firsts b ++ cond (is_empty b) next []) ≡ true)
-        × (is_plain b next ≡ true) = and_true (is_plain a (firsts b ++ cond (is_empty b) next [])) (is_plain b next) p in
+    × (is_plain b next ≡ true) = and_true (is_plain a (firsts b ++ cond (is_empty b) next [])) (is_plain b next) p in
     local_seq a (eat b) (local a) (firsts b ++ cond (is_empty b) next []) q.0 u t s s' x (λ m g. suffix b m (t ∷ s) x g)
-        (λ v c g. local b next v t s s' x q.1 g) h
+    (λ v c g. local b next v t s s' x q.1 g) h
 local (alt a b) next u t s s' x p h =
     let q : (is_plain a next ≡ true) × ((is_plain b next && (not (is_empty a) && (not (is_empty b) && are_apart (firsts a) (firsts b)))) ≡ true) = and_true
-        (is_plain a next) (is_plain b next && (not (is_empty a) && (not (is_empty b) && are_apart (firsts a) (firsts b)))) p in
+    (is_plain a next) (is_plain b next && (not (is_empty a) && (not (is_empty b) && are_apart (firsts a) (firsts b)))) p in
     let q2 : (is_plain b next ≡ true) × ((not (is_empty a) && (not (is_empty b) && are_apart (firsts a) (firsts b))) ≡ true) = and_true (is_plain b next)
-        (not (is_empty a) && (not (is_empty b) && are_apart (firsts a) (firsts b))) q.1 in
+    (not (is_empty a) && (not (is_empty b) && are_apart (firsts a) (firsts b))) q.1 in
     elim (known_bool (starts a (u ++ t ∷ s))) [
       | inl b1 ↦
           let g : eat a (u ++ t ∷ s) ≡ with_tail (t ∷ s) x = rw b1 at h in
@@ -160,8 +160,8 @@ local (alt a b) next u t s s' x p h =
           rw b2 (local b next u t s s' x q2.0 g)
     ]
 local (opt a) next u t s s' x p h =
-    let q : (is_plain a next ≡ true) × ((not (is_empty a) && are_apart (firsts a) next) ≡ true) = and_true (is_plain a next)
-        (not (is_empty a) && are_apart (firsts a) next) p in
+    let q : (is_plain a next ≡ true)
+    × ((not (is_empty a) && are_apart (firsts a) next) ≡ true) = and_true (is_plain a next) (not (is_empty a) && are_apart (firsts a) next) p in
     elim (known_bool (starts a (u ++ t ∷ s))) [
       | inl b1 ↦
           let g : eat a (u ++ t ∷ s) ≡ with_tail (t ∷ s) x = rw b1 at h in
@@ -174,7 +174,7 @@ local (opt a) next u t s s' x p h =
     ]
 local (many a) next u t s s' x p h =
     let q : (is_plain a (firsts a ++ next) ≡ true) × ((not (is_empty a) && are_apart (firsts a) next) ≡ true) = and_true (is_plain a (firsts a ++ next))
-        (not (is_empty a) && are_apart (firsts a) next) p in
+    (not (is_empty a) && are_apart (firsts a) next) p in
     let q2 : (not (is_empty a) ≡ true) × (are_apart (firsts a) next ≡ true) = and_true (not (is_empty a)) (are_apart (firsts a) next) q.1 in
     local_many a (local a) (firsts a ++ next) q.0 (not_true (is_empty a) q2.0) (length (u ++ t ∷ s)) (length (u ++ t ∷ s')) u t s s' x (omega arith)
-        (omega arith) h
+    (omega arith) h

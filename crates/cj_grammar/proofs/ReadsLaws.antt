@@ -29,8 +29,9 @@ each_reads one spelled offends means earlier [] ts r = rw append-nil refl
 each_reads one spelled offends means earlier (t ∷ items) ts r =
     let us : List Lexeme = flat_map spelled items ++ ts in
     let regroup : (spelled t ++ flat_map spelled items) ++ ts ≡ spelled t ++ us = append_assoc (spelled t) (flat_map spelled items) ts in
-    let rest : each_at one (length items) (earlier ++ means t ∷ []) us ≡ reads (each_offends offends means (earlier ++ means t ∷ []) items)
-        ((earlier ++ means t ∷ []) ++ map means items) ts = each_reads one spelled offends means (earlier ++ means t ∷ []) items ts r in
+    let rest : each_at one (length items) (earlier ++ means t ∷ []) us
+    ≡ reads (each_offends offends means (earlier ++ means t ∷ []) items) ((earlier ++ means t ∷ []) ++ map means items) ts = each_reads one spelled offends
+    means (earlier ++ means t ∷ []) items ts r in
     let all : (earlier ++ means t ∷ []) ++ map means items ≡ earlier ++ (means t ∷ map means items) = append_assoc earlier (means t ∷ []) (map means items) in
     rw (regroup, r earlier t us)
-        (reads_then (offends earlier t) (each_offends offends means (earlier ++ means t ∷ []) items) (means t) _ us ts _ (rw (← all) rest))
+    (reads_then (offends earlier t) (each_offends offends means (earlier ++ means t ∷ []) items) (means t) _ us ts _ (rw (← all) rest))

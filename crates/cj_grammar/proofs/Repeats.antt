@@ -27,8 +27,8 @@ pub many_turn : (a : Rule) (ts : List Lexeme) → is_empty a ≡ false → eat (
 many_turn a [] e = refl
 many_turn a (t ∷ ts) e = elim (known_bool (starts a (t ∷ ts))) [
   | inl b ↦ rw b (elim (known (eat a (t ∷ ts))) [
-    | inl m ↦ let d : length m.0 < length (t ∷ ts) = shorter a (t ∷ ts) m.0 e m.1 in rw m.1
-        (enough a e (length ts) (length m.0) m.0 (omega arith) (omega arith))
+    | inl m ↦ let d : length m.0
+        < length (t ∷ ts) = shorter a (t ∷ ts) m.0 e m.1 in rw m.1 (enough a e (length ts) (length m.0) m.0 (omega arith) (omega arith))
     | inr m ↦ rw m.1 refl
   ])
   | inr b ↦ rw b refl

@@ -52,7 +52,7 @@ abbrev pub GivesSecond : {Y : Type 0} (r : Rule) (offences : Tree r → List ref
     List Lexeme → Type 0
 GivesSecond r offences means ts result left =
     (t : Tree r) (last : Lexeme) (rest : List Lexeme) → ts ≡ leaves r t ++ last ∷ rest → is_terminal End last ≡ true →
-        Gives result left (reads (offences t) (means t) (last ∷ rest))
+    Gives result left (reads (offences t) (means t) (last ∷ rest))
 
 module _ {P Y X : Type 0}
     (first_offences : Tree funs → List refusal.Refused) (first_of : Tree funs → P)

@@ -9,9 +9,9 @@ use Rattle.cj_tokens.specs.declared.terminal.Terminal.{Terminal}
 use Rattle.cj_tokens.specs.declared.terminal.Terminal.TheVariants.{Fun}
 use Rattle.cj_grammar.specs.Grammar.{Rule, many, Tree, leaves, IsSentence}
 use Rattle.cj_grammar.specs.OneAhead.{is_empty, is_plain, starts, ◌>>=◌, eat, eat_many}
-use Rattle.cj_grammar.specs.Rules.{operand, more_operands, operands, more_names, names, binary, expr, target, nop_instr, op_instr, cond_instr, call_instr,
-    return_instr, print_instr, load_instr, store_instr, fail_instr, instr, line, lines, head, fun, more_funs, funs, guess_setup, edge, cold_setup, warm_setup,
-    setup, setups, numbers, begun, script_call, script_calls, script, input}
+use Rattle.cj_grammar.specs.Rules.{operand, more_operands, operands, more_names, names, binary, expr, target, nop_instr, op_instr, cond_instr, call_instr}
+use Rattle.cj_grammar.specs.Rules.{return_instr, print_instr, load_instr, store_instr, fail_instr, instr, line, lines, head, fun, more_funs, funs, guess_setup}
+use Rattle.cj_grammar.specs.Rules.{edge, cold_setup, warm_setup, setup, setups, numbers, begun, script_call, script_calls, script, input}
 use Rattle.cj_grammar.specs.Reading.{offence}
 use Rattle.cj_grammar.specs.Offences.{class_one, IsFirstOffence}
 use Rattle.cj_grammar.specs.Shapes.{GoesPast, HasFunctions}
@@ -29,8 +29,8 @@ ends a zero (t ∷ ts) rest e l h = absurd (omega arith)
 ends a (suc n) ts rest e l h =
     elim (chosen (starts a ts) (eat a ts >>= eat_many (eat a) (starts a) n) (Ok ts) (Ok rest) h) [
       | inl p ↦
-          let b : (x : List Lexeme) × (eat a ts ≡ Ok x) × (eat_many (eat a) (starts a) n x ≡ Ok rest) = bind_ok (eat a ts)
-              (eat_many (eat a) (starts a) n) rest p.1 in
+          let b : (x : List Lexeme) × (eat a ts ≡ Ok x)
+          × (eat_many (eat a) (starts a) n x ≡ Ok rest) = bind_ok (eat a ts) (eat_many (eat a) (starts a) n) rest p.1 in
           let s : length b.0 < length ts = shorter a ts b.0 e b.1 in
           ends a n b.0 rest e (omega arith) b.2
       | inr p ↦ let r : ts ≡ rest = cc in ap (starts a) (sym r) ∙ p.0

@@ -4,8 +4,8 @@ use Rattle.cj_tokens.specs.Lexemes.{Lexeme, is_terminal}
 use Rattle.cj_tokens.specs.Passing.{front}
 use Rattle.cj_tokens.specs.declared.terminal.Terminal.TheVariants.{Name, Comma, Number, Fun, Call}
 use Rattle.cj_grammar.specs.OneAhead.{starts, ◌>>=◌, eat}
-use Rattle.cj_grammar.specs.Rules.{one, ◌▸◌, operand, more_operands, more_names, line, lines, head, fun, more_funs, guess_setup, cold_setup, warm_setup, setup,
-    setups, numbers, script_call, script_calls}
+use Rattle.cj_grammar.specs.Rules.{one, ◌▸◌, operand, more_operands, more_names, line, lines, head, fun, more_funs, guess_setup, cold_setup, warm_setup, setup}
+use Rattle.cj_grammar.specs.Rules.{setups, numbers, script_call, script_calls}
 use Rattle.cj_grammar.proofs.Ahead.{begun_by, not_begun_by}
 use Rattle.cj_grammar.proofs.Begins.{shorter}
 use Rattle.cj_grammar.proofs.Repeats.{many_goes, many_stops}

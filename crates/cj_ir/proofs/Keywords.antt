@@ -30,8 +30,8 @@ found_in : (test : List ℕ → Bool) (n : ℕ) (ws : List (List ℕ)) → is_so
 found_in test n [] = refl
 found_in test n (w ∷ ws) = go (test w) (found_in test (n + 1) ws)
   where
-    go : (v : Bool) → is_some (position_from test (n + 1) ws) ≡ list_any test ws →
-        is_some (cond v (Some n) (position_from test (n + 1) ws)) ≡ (v || list_any test ws)
+    go : (v : Bool) → is_some (position_from test (n + 1) ws) ≡ list_any test ws → is_some (cond v (Some n) (position_from test (n + 1) ws))
+        ≡ (v || list_any test ws)
     go true i = refl
     go false i = i
 

@@ -1,6 +1,6 @@
 -- The lists of edges as these are linked in turn.
-use Rattle.std.proofs.Common.{◌≡◌, ◌≢◌, ℕ, suc, ◌+◌, ◌^◌, ◌<◌, ◌≤◌, Bool, true, false, cond, List, [], ◌∷◌, ◌++◌, length, get_or, map, replicate, refl, sym,
-    ap, ◌∙◌, subst, ⊎_elim, arith, length-set, get_or-set_same, get_or-set_other}
+use Rattle.std.proofs.Common.{◌≡◌, ◌≢◌, ℕ, suc, ◌+◌, ◌^◌, ◌<◌, ◌≤◌, Bool, true, false, cond, List, [], ◌∷◌, ◌++◌, length, get_or, map, replicate, refl, sym, ap}
+use Rattle.std.proofs.Common.{◌∙◌, subst, ⊎_elim, arith, length-set, get_or-set_same, get_or-set_other}
 use Rattle.std.specs.Prelude.{Contains, All, AllPairs, slice_set, nat_eq}
 use Rattle.std.specs.List.{range_with_len}
 use Rattle.std.proofs.lemmas.Bool.{cases_eq, cases_lt, eq-eqb, ne_eqb}
@@ -53,9 +53,9 @@ none_threaded labels edges into few = record {
   counted = λ n within. get_or-replicate labels n 0 0 within ∙ ap length (sym (list_none labels n));
   chained = λ n within. subst (λ xs. Chain (map (λ at. node at at) (range_with_len 0 (labels + length edges))) n (nodes_of labels xs) n)
       (sym (list_none labels n)) (
-    ap (λ (v : Node). v.after) (alone (labels + length edges) n (omega arith)),
-    ap (λ (v : Node). v.before) (alone (labels + length edges) n (omega arith)),
-  );
+        ap (λ (v : Node). v.after) (alone (labels + length edges) n (omega arith)),
+        ap (λ (v : Node). v.before) (alone (labels + length edges) n (omega arith)),
+      );
   woven = none_woven labels edges into;
 }
 
@@ -73,7 +73,7 @@ into-append label n (e ∷ edges) edge =
     let number : suc n + length edges ≡ n + suc (length edges) = omega arith in
     let step = rest ∙ ap (λ (k : ℕ). edges_into label (suc n) edges ++ cond (nat_eq edge.1.0 label.0) (record { 0 = k } ∷ []) []) number in
     with_head (nat_eq e.1.0 label.0) (record { 0 = n }) (edges_into label (suc n) (edges ++ edge ∷ [])) (edges_into label (suc n) edges)
-        (cond (nat_eq edge.1.0 label.0) (record { 0 = n + suc (length edges) } ∷ []) []) step
+    (cond (nat_eq edge.1.0 label.0) (record { 0 = n + suc (length edges) } ∷ []) []) step
 
 into-below : (label : Label) (n : ℕ) (edges : List (Label × Label)) → All (λ edge. edge.0 < n + length edges) (edges_into label n edges)
 into-below label n [] = All-nil (λ (edge : EdgeId). edge.0 < n + 0)
@@ -91,10 +91,10 @@ pub given_free : (labels : ℕ) (so_far : List (Label × Label)) (label : Label)
 given_free labels so_far label e late c = ⊎_elim
     (λ within.
     let h : e.0 < 0 + length so_far = All-contains (λ (edge : EdgeId). edge.0 < 0 + length so_far) (edges_into label 0 so_far) e (into-below label 0 so_far)
-        (subst (λ xs. Contains xs e) (list_into labels label.0 so_far [] within) c) in
+    (subst (λ xs. Contains xs e) (list_into labels label.0 so_far [] within) c) in
     omega arith)
     (λ outside. contains-none e
-        (subst (λ xs. Contains xs e) (get_or_past (lists_into labels so_far) label.0 [] (let h = length_into labels so_far in omega arith)) c))
+    (subst (λ xs. Contains xs e) (get_or_past (lists_into labels so_far) label.0 [] (let h = length_into labels so_far in omega arith)) c))
     (cases_lt label.0 labels)
 
 -- the lists of those given so far, and of one more
@@ -126,7 +126,7 @@ lists_more labels so_far edge e number within =
     ∙ sym (list_into labels k (so_far ++ edge ∷ []) d k_in))
     (cases_eq k to))
   where
-    appended : (k : ℕ) →
-        edges_into (label_of k) 0 so_far ++ cond (nat_eq edge.1.0 k) (record { 0 = length so_far } ∷ []) [] ≡ edges_into (label_of k) 0 (so_far ++ edge ∷ [])
+    appended : (k : ℕ) → edges_into (label_of k) 0 so_far ++ cond (nat_eq edge.1.0 k) (record { 0 = length so_far } ∷ []) []
+        ≡ edges_into (label_of k) 0 (so_far ++ edge ∷ [])
     appended k = ap (λ (n : ℕ). edges_into (label_of k) 0 so_far ++ cond (nat_eq edge.1.0 k) (record { 0 = n } ∷ []) []) (omega arith)
         ∙ sym (into-append (label_of k) 0 so_far edge)

@@ -1,12 +1,12 @@
 -- What a ring of waiting labels keeps.
-use Rattle.std.proofs.Common.{◌≡◌, ◌≢◌, ℕ, suc, ◌+◌, ◌-◌, ◌%◌, ◌<◌, Bool, true, false, List, [], ◌∷◌, ◌++◌, length, get_or, replicate, Some, refl, sym, ap,
-    ◌∙◌, subst, ⊎_elim, arith, length-append, length-set}
+use Rattle.std.proofs.Common.{◌≡◌, ◌≢◌, ℕ, suc, ◌+◌, ◌-◌, ◌%◌, ◌<◌, Bool, true, false, List, [], ◌∷◌, ◌++◌, length, get_or, replicate, Some, refl, sym, ap, ◌∙◌}
+use Rattle.std.proofs.Common.{subst, ⊎_elim, arith, length-append, length-set}
 use Rattle.std.specs.Prelude.{slice_get, slice_set, Contains, AllPairs}
 use Rattle.std.proofs.lemmas.Option.{same_Some, slice_get-get_or, slice_get_within}
 use Rattle.std.proofs.lemmas.List.{length-replicate}
 use Rattle.std.proofs.lemmas.List.Quantifiers.{all_pairs_push}
-use Rattle.std.proofs.lemmas.List.Elements.{All-nil, All-push, All-head, All-tail, Contains-get_or, Contains-append_left, Contains-append_right,
-    Contains-append_cases, Contains-push_cases, Contains-push}
+use Rattle.std.proofs.lemmas.List.Elements.{All-nil, All-push, All-head, All-tail, Contains-get_or, Contains-append_left, Contains-append_right}
+use Rattle.std.proofs.lemmas.List.Elements.{Contains-append_cases, Contains-push_cases, Contains-push}
 use Rattle.std.proofs.lemmas.Bool.{cases_eq}
 use Rattle.cj_ir.specs.declared.language.Label.{Label}
 use Rattle.cj_links.specs.Waiting.{waiting, IsOrderly}
@@ -105,7 +105,7 @@ ring_more slots k n marks x r at =
     let size = length-set slots at_end x in
     let len : length (window k n slots) ≡ n = length-window (length slots) k n slots room.1 r.few refl in
     let orderly = orderly_more (length slots) (window k n slots) x r.orderly (omega (arith, len, room.0)) within
-        (not_marked (window k n slots) marks x r.marks_of at) in
+    (not_marked (window k n slots) marks x r.marks_of at) in
     record {
       start = omega (arith, r.start, size);
       few = omega (arith, room.0, size);

@@ -1,6 +1,6 @@
 -- What the threads keep as an edge is taken out of its list, led elsewhere, and put in.
-use Rattle.std.proofs.Common.{if◌then◌else◌, ◌≡◌, ◌≢◌, ℕ, zero, suc, ◌+◌, ◌-◌, ◌^◌, ◌<◌, ◌≤◌, Bool, List, [], ◌∷◌, ◌++◌, length, get_or, Some, None, refl, sym,
-    ap, ap₂, ◌∙◌, subst, ⊎_elim, arith, length-set, length-append, get_or-set_same, get_or-set_other}
+use Rattle.std.proofs.Common.{if◌then◌else◌, ◌≡◌, ◌≢◌, ℕ, zero, suc, ◌+◌, ◌-◌, ◌^◌, ◌<◌, ◌≤◌, Bool, List, [], ◌∷◌, ◌++◌, length, get_or, Some, None, refl, sym}
+use Rattle.std.proofs.Common.{ap, ap₂, ◌∙◌, subst, ⊎_elim, arith, length-set, length-append, get_or-set_same, get_or-set_other}
 use Rattle.std.specs.Prelude.{Contains, All, AllPairs, slice_get, slice_set}
 use Rattle.std.proofs.lemmas.Bool.{cases_eq, lt-ltb, le-ltb}
 use Rattle.std.proofs.lemmas.List.{same_lists, get_or_default}
@@ -13,8 +13,8 @@ use Rattle.cj_links.specs.declared.edges.EdgeId.{EdgeId}
 use Rattle.cj_links.specs.declared.edges.Node.{Node}
 use Rattle.cj_links.specs.EdgeTable.{EdgeTable, edge_table, label_of, edge_of, end_of, without, IsLinked, IsInto, unlinked, linked, led_to, IsWoven}
 use Rattle.cj_links.specs.Threads.{after_of, before_of, lead, Chain, nodes_of, edge_at, walk, walks, table_of, IsThreaded}
-use Rattle.cj_links.proofs.Members.{same_edge, nodes-contain, node-edge, nodes-listed, nodes-apart, without-contains, without-gone, without-once,
-    without-count, few_edges, append-once, nodes-without, nodes-append}
+use Rattle.cj_links.proofs.Members.{same_edge, nodes-contain, node-edge, nodes-listed, nodes-apart, without-contains, without-gone, without-once, without-count}
+use Rattle.cj_links.proofs.Members.{few_edges, append-once, nodes-without, nodes-append}
 use Rattle.cj_links.proofs.Chains.{length-lead, chain_lead, chain_last, chain_before, chain_first, chain_after, cut, lead_both, join}
 
 -- ---- lists
@@ -42,7 +42,7 @@ module _ (edges : List (Label × Label)) (lists : List (List EdgeId)) (w : IsWov
           (λ (same : label.0 ≡ n).
           let is : label_of n ≡ label = ap label_of (sym same) in
           let read : list ≡ get_or (slice_set lists n list) label.0 [] = sym (get_or-set_same lists n list [] within)
-              ∙ ap (λ k. get_or (slice_set lists n list) k []) (sym same) in
+          ∙ ap (λ k. get_or (slice_set lists n list) k []) (sym same) in
           subst (P label) read (subst (λ l. P l list) is here))
           (λ other. subst (P label) (sym (get_or-set_other lists n label.0 list [] other)) there)
           (cases_eq label.0 n)
@@ -121,7 +121,7 @@ module _ (labels : ℕ) (nodes : List Node) (counts : List ℕ) (edges : List (L
       let number : f.edge.0 ≡ e.edge.0 = omega (arith, e.node, f.node) in
       let same : f.edge ≡ e.edge = same_edge f.edge e.edge number in
       let one : label_of m ≡ label_of n = sym (linked_where (label_of m) f.edge f.listed) ∙ ap (end_of table) same
-          ∙ linked_where (label_of n) e.edge e.listed in
+      ∙ linked_where (label_of n) e.edge e.listed in
       other (ap (λ (l : Label). l.0) one))
       (contains-cases m x (nodes_of labels (get_or lists m [])) cm))
       (contains-cases n x (nodes_of labels (get_or lists n [])) cn)
@@ -188,19 +188,19 @@ module _ (labels : ℕ) (nodes : List Node) (counts : List ℕ) (edges : List (L
       let once = t.woven.once (label_of n) in
       let counts_less : get_or counts n 0 - 1 ≡ length (without e list) = omega (arith, t.counted n within, without-count e list once c) in
       let chain = cut nodes n (nodes_of labels list) n x p q refl refl p_in q_in (t.chained n within) (nodes-contain labels list e c) no_label no_label
-          (nodes-apart labels list once) in
+      (nodes-apart labels list once) in
       threaded_set (lead nodes p q) n (without e list) (get_or counts n 0 - 1) within (length-lead nodes p q) counts_less
       (subst (λ path. Chain (lead nodes p q) n path n) (sym (nodes-without labels e list)) chain)
       (λ m m_in other. chain_lead nodes p q p_in q_in m (nodes_of labels (get_or lists m [])) m (t.chained m m_in)
       (λ h. rings_apart n m p within m_in other p_at
-          (subst (Contains (m ∷ nodes_of labels (get_or lists m []))) h (contains-head m (nodes_of labels (get_or lists m [])))))
+      (subst (Contains (m ∷ nodes_of labels (get_or lists m []))) h (contains-head m (nodes_of labels (get_or lists m [])))))
       (λ h. rings_apart n m q within m_in other q_at
-          (subst (Contains (m ∷ nodes_of labels (get_or lists m []))) h (contains-head m (nodes_of labels (get_or lists m [])))))
+      (subst (Contains (m ∷ nodes_of labels (get_or lists m []))) h (contains-head m (nodes_of labels (get_or lists m [])))))
       (λ k. rings_apart n m p within m_in other p_at (contains-tail m p (nodes_of labels (get_or lists m [])) k))
       (λ k. rings_apart n m q within m_in other q_at (contains-tail m q (nodes_of labels (get_or lists m [])) k)))
       (all-from_contains (λ (edge : EdgeId). edge.0 < length edges) (without e list) (λ y k. edge_within (label_of n) y (without-contains e y list k).0))
       (all-from_contains (λ (edge : EdgeId). end_of table edge ≡ label_of n) (without e list)
-          (λ y k. linked_where (label_of n) y (without-contains e y list k).0))
+      (λ y k. linked_where (label_of n) y (without-contains e y list k).0))
       (without-once e list once)
 
   -- ---- an edge put in
@@ -235,7 +235,7 @@ module _ (labels : ℕ) (nodes : List Node) (counts : List ℕ) (edges : List (L
       let new : Contains list e → ⊥ = λ k. free (linked_if (label_of n) e k) in
       let more : get_or counts n 0 + 1 ≡ length (list ++ e ∷ []) = omega (arith, t.counted n within, length-append list (e ∷ [])) in
       let chain = join nodes n (nodes_of labels list) n x p refl p_in x_in n_in (t.chained n within) nx nx (fresh_node n e free) no_label no_label
-          (nodes-apart labels list once) in
+      (nodes-apart labels list once) in
       threaded_set (lead_both nodes p x n) n (list ++ e ∷ []) (get_or counts n 0 + 1) within (length-lead one x n ∙ length-lead nodes p x) more
       (subst (λ path. Chain (lead_both nodes p x n) n path n) (sym (nodes-append labels list e)) chain)
       (λ m m_in other.
@@ -388,12 +388,12 @@ module _ (nodes : List Node) (counts : List ℕ) (edges : List (Label × Label))
       seen (length counts) nodes counts (slice_set edges e.0 ((edge_of now e).0, label)) now.lists
       (threaded_to (length counts) nodes counts edges now.lists t e label (omega (arith, t.lists_of)) within free)
 
-  pub few_counted : e.0 < length edges → (IsLinked (table_of nodes counts edges) e → ⊥) →
-      get_or counts (end_of (table_of nodes counts edges) e).0 0 + 1 < 2 ^ 32
+  pub few_counted : e.0 < length edges → (IsLinked (table_of nodes counts edges) e → ⊥) → get_or counts (end_of (table_of nodes counts edges) e).0 0 + 1
+      < 2 ^ 32
   few_counted within free =
       let s = threaded_in (length counts) nodes counts edges now.lists t to e (into_labels within) within refl free in
       let more = list_few (length counts) (lead_both nodes (before_of nodes to) at to) (slice_set counts to (get_or counts to 0 + 1)) edges
-          (linked now e).lists s to in
+      (linked now e).lists s to in
       let count = s.counted to (into_labels within) in
       let read = get_or-set_same counts to (get_or counts to 0 + 1) 0 (into_labels within) in
       omega (arith, more, count, read, t.few)
@@ -409,8 +409,8 @@ unlinked_free v e linked c =
 pub led_free : (v : EdgeTable) (e : EdgeId) (label : Label) → IsWoven v → e.0 < length v.edges → (IsLinked v e → ⊥) → IsLinked (led_to v e label) e → ⊥
 led_free v e label w within free c =
     let none = label_of 0 in
-    let ends : end_of (led_to v e label) e ≡ label = ap (λ (b : Label × Label). b.1) (get_or-set_same v.edges e.0 ((edge_of v e).0, label) (none, none) within)
-        in
+    let ends : end_of (led_to v e label) e
+    ≡ label = ap (λ (b : Label × Label). b.1) (get_or-set_same v.edges e.0 ((edge_of v e).0, label) (none, none) within) in
     let there : Contains (get_or v.lists label.0 []) e = subst (λ (l : Label). Contains (get_or v.lists l.0 []) e) ends c in
     let was : end_of v e ≡ label = All-contains (λ (edge : EdgeId). end_of v edge ≡ label) (get_or v.lists label.0 []) e (w.ends label) there in
     free (subst (λ (l : Label). Contains (get_or v.lists l.0 []) e) (sym was) there)

@@ -11,8 +11,8 @@ use Rattle.cj_ir.specs.declared.language.Reg.{Reg}
 use Rattle.cj_links.specs.declared.edges.EdgeId.{EdgeId}
 use Rattle.cj_links.specs.declared.uses.UseId.{UseId}
 use Rattle.cj_links.specs.EdgeTable.{EdgeTable, label_of, end_of, list_of, edges_into, given, without, unlinked, IsInto, IsLinked}
-use Rattle.cj_links.specs.UseTable.{use_table, reg_of, use_at, used_by, uses_of, IsListed, without_use, unlisted, uses_from, given_uses, use_of, edge_of_use,
-    use_along, edge_along, seen_uses}
+use Rattle.cj_links.specs.UseTable.{use_table, reg_of, use_at, used_by, uses_of, IsListed, without_use, unlisted, uses_from, given_uses, use_of, edge_of_use}
+use Rattle.cj_links.specs.UseTable.{use_along, edge_along, seen_uses}
 
 -- ---- reads
 
@@ -45,8 +45,8 @@ without_seen x [] = refl
 without_seen x (y ∷ list) = by_case (nat_eq y.0 x.0) (without_seen x list)
   where
     by_case : (b : Bool) → map use_of (without (edge_of_use x) list) ≡ without_use x (map use_of list) →
-        map use_of (cond (not b) (y ∷ without (edge_of_use x) list) (without (edge_of_use x) list)) ≡ cond (not b) (use_of y ∷ without_use x (map use_of list))
-        (without_use x (map use_of list))
+        map use_of (cond (not b) (y ∷ without (edge_of_use x) list) (without (edge_of_use x) list))
+        ≡ cond (not b) (use_of y ∷ without_use x (map use_of list)) (without_use x (map use_of list))
     by_case true rest = rest
     by_case false rest = ap (λ (l : List UseId). use_of y ∷ l) rest
 
@@ -72,8 +72,8 @@ uses_into n (x ∷ uses) r = by_case (nat_eq x.0.0 r) (uses_into (suc n) uses r)
     by_case true rest = ap (λ (l : List UseId). record { 0 = n } ∷ l) rest
     by_case false rest = rest
 
-lists_from : (uses : List (Reg × Label)) (ns : List ℕ) →
-    map (map use_of) (map (λ n. edges_into (label_of n) 0 (map edge_along uses)) ns) ≡ map (λ r. uses_from 0 uses (reg_of r)) ns
+lists_from : (uses : List (Reg × Label)) (ns : List ℕ) → map (map use_of) (map (λ n. edges_into (label_of n) 0 (map edge_along uses)) ns)
+    ≡ map (λ r. uses_from 0 uses (reg_of r)) ns
 lists_from uses [] = refl
 lists_from uses (n ∷ ns) = ap₂ (λ (l : List UseId) (ls : List (List UseId)). l ∷ ls) (uses_into 0 uses n) (lists_from uses ns)
 

@@ -1,6 +1,6 @@
 -- Edges between labels, and for each label the list of the edges into it.
-use Rattle.std.specs.Prelude.{◌≡◌, ◌≢◌, ℕ, suc, ◌<◌, cond, not, nat_eq, List, [], ◌∷◌, ◌++◌, length, map, filter, All, AllPairs, Contains, slice_set,
-    slice_index_or}
+use Rattle.std.specs.Prelude.{◌≡◌, ◌≢◌, ℕ, suc, ◌<◌, cond, not, nat_eq, List, [], ◌∷◌, ◌++◌, length, map, filter, All, AllPairs, Contains, slice_set}
+use Rattle.std.specs.Prelude.{slice_index_or}
 use Rattle.std.specs.List.{range_with_len}
 use Rattle.cj_ir.specs.declared.language.Label.{Label}
 use Rattle.cj_links.specs.declared.edges.EdgeId.{EdgeId}

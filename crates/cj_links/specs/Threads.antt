@@ -1,7 +1,7 @@
 -- How the lists of edges are threaded through one array of nodes. A label's node comes first and last in its ring, and
 -- between lie the nodes of its edges, which stand behind those of all labels.
-use Rattle.std.specs.Prelude.{◌≡◌, ℕ, zero, suc, ◌+◌, ◌-◌, ◌^◌, ◌<◌, if◌then◌else◌, nat_lt, List, [], ◌∷◌, length, map, Option, Some, None, slice_set,
-    slice_index_or}
+use Rattle.std.specs.Prelude.{◌≡◌, ℕ, zero, suc, ◌+◌, ◌-◌, ◌^◌, ◌<◌, if◌then◌else◌, nat_lt, List, [], ◌∷◌, length, map, Option, Some, None, slice_set}
+use Rattle.std.specs.Prelude.{slice_index_or}
 use Rattle.std.specs.List.{range_with_len}
 use Rattle.cj_ir.specs.declared.language.Label.{Label}
 use Rattle.cj_links.specs.declared.edges.EdgeId.{EdgeId}

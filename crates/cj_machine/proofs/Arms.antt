@@ -19,8 +19,9 @@ use Rattle.cj_draft.specs.Effects.{version_effect}
 use Rattle.cj_draft.specs.Arrives.{place_at}
 use Rattle.cj_calls.specs.declared.report.Look.{Look}
 use Rattle.cj_activations.specs.Activations.{VersionFrame, InBase, InVersion, Paused, VersionWaits, Active}
-use Rattle.cj_machine.specs.Versions.{State, Codes, Continues, Finishes, place_in, moved_to, version_entry, entered_at, offset_told, entered, counted, enters,
-    paused, resumed_by, resumed_at, returns_to, turn_by, version_turn_by, turn_in_base, turn_in_version, turn_of, version_turn}
+use Rattle.cj_machine.specs.Versions.{State, Codes, Continues, Finishes, place_in, moved_to, version_entry, entered_at, offset_told, entered, counted, enters}
+use Rattle.cj_machine.specs.Versions.{paused, resumed_by, resumed_at, returns_to, turn_by, version_turn_by, turn_in_base, turn_in_version, turn_of}
+use Rattle.cj_machine.specs.Versions.{version_turn}
 use Rattle.cj_machine.specs.Marks.{base_marks, version_marks, place_marks, marks_in, turn_marks}
 
 -- the place of a version, from its code
@@ -49,9 +50,8 @@ turn_at_version P codes look s v code place top found at =
 
 -- a call enters
 pub turn_enters : (P : Program) (codes : Codes) (look : Option Look) (s : State) (top now : Active) (dest : Reg) (f : FunId) (args : List ℤ) (next : Label) →
-    entered P codes look f args ≡ Some now →
-    turn_by P codes look s top (Calls dest f args next) ≡ Continues
-    (counted s (record { top = now; waiting = paused top next dest ∷ s.stack.waiting }) s.memory [] (s.entries + 1))
+    entered P codes look f args ≡ Some now → turn_by P codes look s top (Calls dest f args next)
+    ≡ Continues (counted s (record { top = now; waiting = paused top next dest ∷ s.stack.waiting }) s.memory [] (s.entries + 1))
 unfolding turn_by enters
 turn_enters P codes look s top now dest f args next e = ap (enters s (paused top next dest)) e
 
@@ -104,8 +104,8 @@ returns_last codes s value callers e = ap (returns_to codes s value) e
 pub returns_to_version : (codes : Codes) (s : State) (value : ℤ) (callers others : List Paused) (v : VersionFrame) (code : Code) (place : Place) (dest : Reg)
     (f : FunId) (args : List Operand) (next : Label) → callers ≡ VersionWaits v ∷ others → codes v.function v.offset ≡ Some code →
     place_at code v.label ≡ Some place → place.instr ≡ Call dest f args next →
-    returns_to codes s value callers ≡ Continues
-    (counted s (record { top = moved_to (InVersion v) next (slice_set v.regs dest.0 value); waiting = others }) s.memory [] s.entries)
+    returns_to codes s value callers
+    ≡ Continues (counted s (record { top = moved_to (InVersion v) next (slice_set v.regs dest.0 value); waiting = others }) s.memory [] s.entries)
 unfolding returns_to resumed_at resumed_by
 returns_to_version codes s value callers others v code place dest f args next e found at is =
     ap (returns_to codes s value) e

@@ -31,8 +31,8 @@ use Rattle.cj_machine.specs.declared.steps.Step.TheVariants as step
 use Rattle.cj_machine.specs.Versions.{State, Codes, Continues, Finishes, counted, moved_to, passed, rebuilt, returns_to, turn_by, version_turn_by}
 use Rattle.cj_machine.specs.Marks.{Branched, edge_of, effect_marks, base_marks, version_marks}
 use Rattle.cj_machine.specs.Machines.{went_on, CarriesOut, progress_of}
-use Rattle.cj_machine.specs.Stepping.{IsStep, IsBaseStep, IsVersionStep, StaysIn, marks_told, step_of, BaseNeeds, VersionNeeds, EffectTakesMemory,
-    VersionTakesMemory}
+use Rattle.cj_machine.specs.Stepping.{IsStep, IsBaseStep, IsVersionStep, StaysIn, marks_told, step_of, BaseNeeds, VersionNeeds, EffectTakesMemory}
+use Rattle.cj_machine.specs.Stepping.{VersionTakesMemory}
 
 base_regs : (a : Active) (fr : Frame) → a ≡ InBase fr → active_regs a ≡ fr.regs
 unfolding active_regs
@@ -151,7 +151,7 @@ base_branches test then_to else_to args old new is = record {
   made = λ P fr top codes look.
       carried_at P args old new (InBase fr) (On (branch (operand_value fr.regs test) then_to else_to) fr.regs old.memory []) Running top
       (subst (λ regs. Continues new ≡ Continues (went_on old (branch (operand_value regs test) then_to else_to) regs old.memory []))
-          (base_regs old.stack.top fr top) (ap Continues is))
+      (base_regs old.stack.top fr top) (ap Continues is))
       codes look;
   marks = λ fr top. ap (λ regs. Branched fr.function fr.label (edge_of (operand_value regs test)) ∷ []) (sym (base_regs old.stack.top fr top));
   needs = tt;
@@ -176,8 +176,11 @@ pub base_returns : (value : Operand) (v : ℤ) (args : List ℤ) (s : State) →
     → IsBaseStep (base.Return value) args s s (step.Returns v)
 unfolding effect base_marks effect_marks marks_told turn_by
 base_returns value v args s is = record {
-  made = λ P fr top. (refl,
-      λ codes look. ap (λ x. returns_to codes s x s.stack.waiting) (sym (is ∙ ap (λ regs. operand_value regs value) (base_regs s.stack.top fr top))));
+  made = λ P fr top. (
+    refl,
+    λ codes look. ap (λ x. returns_to codes s x s.stack.waiting)
+        (sym (is ∙ ap (λ regs. operand_value regs value) (base_regs s.stack.top fr top))),
+  );
   marks = λ fr top. refl;
   needs = tt;
 }
@@ -200,8 +203,11 @@ pub version_returns : (value : Operand) (x : ℤ) (args : List ℤ) (s : State) 
     → IsVersionStep (version.Return value) args s s (step.Returns x)
 unfolding version_effect version_turn_by version_marks effect_marks marks_told turn_by
 version_returns value x args s is = record {
-  made = λ P v top. (refl,
-      λ codes look. ap (λ y. returns_to codes s y s.stack.waiting) (sym (is ∙ ap (λ regs. operand_value regs value) (version_regs s.stack.top v top))));
+  made = λ P v top. (
+    refl,
+    λ codes look. ap (λ y. returns_to codes s y s.stack.waiting)
+        (sym (is ∙ ap (λ regs. operand_value regs value) (version_regs s.stack.top v top))),
+  );
   marks = λ v top. refl;
   needs = tt;
   stays = λ v top. tt;

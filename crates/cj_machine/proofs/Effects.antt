@@ -10,8 +10,8 @@ use Rattle.cj_ir.specs.declared.language.Program.{Program}
 use Rattle.cj_ir.specs.declared.language.Instr.{Instr}
 use Rattle.cj_ir.specs.declared.language.Instr.TheVariants as base
 use Rattle.cj_base.specs.declared.machine.Frame.{Frame}
-use Rattle.cj_base.specs.Machine.{Fault, BadAddress, ZeroDivisor, Effect, On, Calls, Returns, Faults, effect, with_value, cell, with_cell, op_effect,
-    load_effect, store_effect}
+use Rattle.cj_base.specs.Machine.{Fault, BadAddress, ZeroDivisor, Effect, On, Calls, Returns, Faults, effect, with_value, cell, with_cell, op_effect}
+use Rattle.cj_base.specs.Machine.{load_effect, store_effect}
 use Rattle.cj_base.proofs.FitsLemmas.{fine_at}
 use Rattle.cj_draft.specs.declared.instructions.VInstr.{VInstr}
 use Rattle.cj_draft.specs.declared.instructions.VInstr.TheVariants.{Nop, Op, Move, Cond, Call, Return, Print, Load, Store, Fail, Assume, Anchor}
@@ -45,7 +45,7 @@ effect_takes P formed fr m (base.Load dest a next) at =
     value_takes P (cell m (operand_value fr.regs a)) (BadAddress (operand_value fr.regs a)) (λ v. On next (slice_set fr.regs dest.0 v) m []) (λ v. tt)
 effect_takes P formed fr m (base.Store a v next) at =
     value_takes P (cell m (operand_value fr.regs a)) (BadAddress (operand_value fr.regs a))
-        (λ w. On next fr.regs (with_cell m (operand_value fr.regs a) (operand_value fr.regs v)) []) (λ w. tt)
+    (λ w. On next fr.regs (with_cell m (operand_value fr.regs a) (operand_value fr.regs v)) []) (λ w. tt)
 effect_takes P formed fr m (base.Fail text) at = tt
 
 -- a guarded effect is that of an Assume or Anchor with this next label
@@ -98,10 +98,10 @@ calls_by (Return value) regs m = tt
 calls_by (Print value next) regs m = tt
 calls_by (Load dest a next) regs m =
     value_calls (Load dest a next) regs (cell m (operand_value regs a)) (BadAddress (operand_value regs a)) (λ v. On next (slice_set regs dest.0 v) m [])
-        (λ v. tt)
+    (λ v. tt)
 calls_by (Store a x next) regs m =
     value_calls (Store a x next) regs (cell m (operand_value regs a)) (BadAddress (operand_value regs a))
-        (λ w. On next regs (with_cell m (operand_value regs a) (operand_value regs x)) []) (λ w. tt)
+    (λ w. On next regs (with_cell m (operand_value regs a) (operand_value regs x)) []) (λ w. tt)
 calls_by (Fail f l) regs m = tt
 calls_by (Assume guards back target next) regs m = tt
 calls_by (Anchor back target next) regs m = tt

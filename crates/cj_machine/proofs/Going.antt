@@ -79,8 +79,8 @@ module _ (P : Program) (call : Begun) (codes later : Codes) (g : Grows codes lat
   turn_ran : (o : Progress) → version_turn P later (slice_get now (length looks)) s ≡ o → version_run P later now call (s.turns + 1) ≡ o
   turn_ran o turn =
       let at : version_turn P later (slice_get now s.entries) s ≡ o = subst (λ (n : ℕ). version_turn P later (slice_get now n) s ≡ o) (sym is.used) turn in
-      let next : version_turn P later (slice_get (looks ++ more) s.entries) s ≡ o = subst
-          (λ (ls : List Look). version_turn P later (slice_get ls s.entries) s ≡ o) longer at in
+      let next : version_turn P later (slice_get (looks ++ more) s.entries) s
+      ≡ o = subst (λ (ls : List Look). version_turn P later (slice_get ls s.entries) s ≡ o) longer at in
       subst (λ (ls : List Look). version_run P later ls call (s.turns + 1) ≡ o) (sym longer) (run_next P call codes later looks more s.turns s o g is.run next)
 
   -- its marks

@@ -16,8 +16,8 @@ use Rattle.cj_draft.specs.Effects.{VersionEffect, Plain, Guarded, version_effect
 use Rattle.cj_draft.specs.Arrives.{place_at}
 use Rattle.cj_calls.specs.declared.report.Look.{Look}
 use Rattle.cj_activations.specs.Activations.{VersionFrame, Active, InBase, InVersion, Paused, BaseWaits, VersionWaits}
-use Rattle.cj_machine.specs.Versions.{State, Codes, Progress, Undefined, place_in, paused, version_entry, entered_at, offset_told, entered, enters, resumed_at,
-    returns_to, turn_by, version_turn_by, turn_in_base, turn_in_version, turn_of, version_turn}
+use Rattle.cj_machine.specs.Versions.{State, Codes, Progress, Undefined, place_in, paused, version_entry, entered_at, offset_told, entered, enters, resumed_at}
+use Rattle.cj_machine.specs.Versions.{returns_to, turn_by, version_turn_by, turn_in_base, turn_in_version, turn_of, version_turn}
 use Rattle.cj_machine.specs.Marks.{place_marks, marks_in, turn_marks}
 use Rattle.cj_machine.specs.CodeMaps.{Grows}
 use Rattle.cj_machine.specs.Stands.{IsPlaced, PausedIs, PausedAre, TopStands, Stands}

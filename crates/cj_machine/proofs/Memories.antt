@@ -50,7 +50,7 @@ unfolding version_memory memory_in
 memory_kept P call codes later trail memory g e =
     let kept : Kept (version_run P codes trail call call.limit) (version_run P later trail call call.limit) =
     subst (λ t. Kept (version_run P codes trail call call.limit) (version_run P later t call call.limit)) (append-nil trail)
-        (run_kept P call codes later g trail [] call.limit) in
+    (run_kept P call codes later g trail [] call.limit) in
     ⊎_elim
     (λ none.
     let nothing : None ≡ Some memory = sym (ap memory_in none) ∙ e in

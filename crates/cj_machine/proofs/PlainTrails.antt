@@ -15,8 +15,8 @@ use Rattle.cj_ir.proofs.ListReads.{all_at}
 use Rattle.cj_calls.specs.declared.report.Look.{Look}
 use Rattle.cj_calls.specs.declared.report.Report.{Report}
 use Rattle.cj_activations.specs.Activations.{Active, InBase, InVersion, Paused, BaseWaits, VersionWaits, Stacked}
-use Rattle.cj_machine.specs.Versions.{State, Codes, Progress, Continues, Finishes, Undefined, moved_to, paused, entered_at, offset_told, entered, counted,
-    enters, returns_to, turn_by, turn_in_base, turn_of, version_turn}
+use Rattle.cj_machine.specs.Versions.{State, Codes, Progress, Continues, Finishes, Undefined, moved_to, paused, entered_at, offset_told, entered, counted}
+use Rattle.cj_machine.specs.Versions.{enters, returns_to, turn_by, turn_in_base, turn_of, version_turn}
 use Rattle.cj_machine.specs.VersionRuns.{first_state, begins_in, version_start, one_turn_more, version_run, report_of, if_used, report_at, version_report}
 use Rattle.cj_machine.specs.CodeMaps.{IsPlainTrail, IsPlainReport}
 
@@ -99,7 +99,7 @@ module _ (P : Program) (codes : Codes) where
   unfolding turn_by moved_to paused
   plain_by look plain s fr (On next regs m printed) h =
       plain_counted s (record { top = InBase (record { function = fr.function; label = next; regs = regs }); waiting = s.stack.waiting }) m printed s.entries h
-          tt h.waiting
+      tt h.waiting
   plain_by look plain s fr (Calls dest f args next) h =
       plain_enters s fr (paused (InBase fr) next dest) (entered P codes look f args) h h.waiting (plain_entered look plain f args)
   plain_by look plain s fr (Returns value) h = plain_returns s value s.stack.waiting h h.waiting

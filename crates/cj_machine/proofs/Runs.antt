@@ -1,6 +1,6 @@
 -- The versioned run, turn by turn, over the code and the trail so far.
-use Rattle.std.proofs.Common.{◌≡◌, ◌≢◌, ℕ, zero, suc, ◌+◌, ◌-◌, ◌≤◌, eq-eqb, append-nil, true, false, List, [], ◌∷◌, ◌++◌, length, Option, Some, None, refl,
-    sym, ap, ◌∙◌, subst, add-one, inl, inr, ⊎_elim, arith}
+use Rattle.std.proofs.Common.{◌≡◌, ◌≢◌, ℕ, zero, suc, ◌+◌, ◌-◌, ◌≤◌, eq-eqb, append-nil, true, false, List, [], ◌∷◌, ◌++◌, length, Option, Some, None, refl}
+use Rattle.std.proofs.Common.{sym, ap, ◌∙◌, subst, add-one, inl, inr, ⊎_elim, arith}
 use Rattle.std.specs.Prelude.{ℤ, slice_get, ⊤, if◌then◌else◌}
 use Rattle.cj_ir.specs.Program.{instr_at}
 use Rattle.cj_ir.specs.declared.language.Program.{Program}
@@ -17,8 +17,8 @@ use Rattle.cj_draft.specs.Effects.{VersionEffect, Plain, Guarded, version_effect
 use Rattle.cj_calls.specs.declared.report.Look.{Look}
 use Rattle.cj_calls.specs.declared.report.Report.{Report}
 use Rattle.cj_activations.specs.Activations.{VersionFrame, Active, InBase, InVersion, Paused, BaseWaits, VersionWaits}
-use Rattle.cj_machine.specs.Versions.{State, Codes, Progress, Continues, Finishes, Undefined, place_in, paused, entered, counted, enters, resumed_by,
-    resumed_at, returns_to, turn_by, passed, rebuilt, version_turn_by, turn_in_base, turn_in_version, turn_of, version_turn}
+use Rattle.cj_machine.specs.Versions.{State, Codes, Progress, Continues, Finishes, Undefined, place_in, paused, entered, counted, enters, resumed_by}
+use Rattle.cj_machine.specs.Versions.{resumed_at, returns_to, turn_by, passed, rebuilt, version_turn_by, turn_in_base, turn_in_version, turn_of, version_turn}
 use Rattle.cj_machine.specs.VersionRuns.{first_state, begins_in, version_start, one_turn_more, version_run, report_of, if_used, report_at, version_report}
 use Rattle.cj_machine.specs.CodeMaps.{Grows}
 use Rattle.cj_machine.proofs.Growing.{Kept, IsKept, look_kept, entered_kept, turn_kept}

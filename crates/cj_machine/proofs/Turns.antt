@@ -1,6 +1,6 @@
 -- A turn of the versioned machine keeps that its state stands for the base run, and ends that run as its turn does.
-use Rattle.std.proofs.Common.{◌≡◌, ◌≢◌, ℕ, zero, suc, ◌+◌, ◌-◌, ◌≤◌, Bool, true, false, List, [], ◌∷◌, ◌++◌, length, map, Option, Some, None, refl, sym, ap,
-    ◌∙◌, subst, arith, append-nil, ⊎_elim}
+use Rattle.std.proofs.Common.{◌≡◌, ◌≢◌, ℕ, zero, suc, ◌+◌, ◌-◌, ◌≤◌, Bool, true, false, List, [], ◌∷◌, ◌++◌, length, map, Option, Some, None, refl, sym, ap}
+use Rattle.std.proofs.Common.{◌∙◌, subst, arith, append-nil, ⊎_elim}
 use Rattle.std.proofs.lemmas.List.Elements.{All-contains, Contains-push_cases}
 use Rattle.std.proofs.lemmas.List.{length-map}
 use Rattle.std.specs.Prelude.{ℤ, slice_set, nat_lt, if◌then◌else◌}
@@ -20,8 +20,8 @@ use Rattle.cj_base.specs.declared.machine.Waiting.{Waiting}
 use Rattle.cj_base.specs.declared.machine.End.{End}
 use Rattle.cj_base.specs.declared.machine.End.TheVariants.{Returned, TurnLimit}
 use Rattle.cj_base.specs.Machine as machine
-use Rattle.cj_base.specs.Machine.{Stack, over, Fault, FailedAt, BadAddress, ZeroDivisor, Effect, On, Calls, Returns, Faults, effect, Outcome, Goes, Ends,
-    end_of, entry_regs, entry_frame, waits, resumed, give, turn_at, base_turn}
+use Rattle.cj_base.specs.Machine.{Stack, over, Fault, FailedAt, BadAddress, ZeroDivisor, Effect, On, Calls, Returns, Faults, effect, Outcome, Goes, Ends}
+use Rattle.cj_base.specs.Machine.{end_of, entry_regs, entry_frame, waits, resumed, give, turn_at, base_turn}
 use Rattle.cj_base.specs.Same.{Same}
 use Rattle.cj_base.specs.Run.{Begun, ran, RunAt, EndStands}
 use Rattle.cj_base.proofs.SameLaws.{same_refl}
@@ -41,11 +41,11 @@ use Rattle.cj_calls.specs.declared.report.Look.{Look}
 use Rattle.cj_calls.specs.declared.report.Note.{Note}
 use Rattle.cj_calls.specs.Reports.{NoteStands, NotesStand}
 use Rattle.cj_activations.specs.Activations.{VersionFrame, Active, InBase, InVersion, Paused, BaseWaits, VersionWaits, Stacked}
-use Rattle.cj_machine.specs.Versions.{State, Codes, place_in, moved_to, paused, version_entry, entered, counted, enters, resumed_by, resumed_at, returns_to,
-    turn_by, passed, keep_note, rebuilt, version_turn_by, turn_in_base, turn_in_version, turn_of, version_turn}
+use Rattle.cj_machine.specs.Versions.{State, Codes, place_in, moved_to, paused, version_entry, entered, counted, enters, resumed_by, resumed_at, returns_to}
+use Rattle.cj_machine.specs.Versions.{turn_by, passed, keep_note, rebuilt, version_turn_by, turn_in_base, turn_in_version, turn_of, version_turn}
 use Rattle.cj_machine.specs.CodeMaps.{SoundCodes, Grows}
-use Rattle.cj_machine.specs.Stands.{IsPlaced, IsPausedVersion, PausedIs, PausedAre, BackStands, VersionTop, TopStands, versions_on_top, versions_waiting,
-    CountsStand, Stands, HasEnded, Holds}
+use Rattle.cj_machine.specs.Stands.{IsPlaced, IsPausedVersion, PausedIs, PausedAre, BackStands, VersionTop, TopStands, versions_on_top, versions_waiting}
+use Rattle.cj_machine.specs.Stands.{CountsStand, Stands, HasEnded, Holds}
 use Rattle.cj_machine.proofs.Memories.{memory_over}
 use Rattle.cj_machine.proofs.Counting.{counts_on, counts_pass, counts_fail, counts_bound}
 use Rattle.cj_machine.proofs.Effects.{TakesOf, effect_takes, GuardedBy, guarded_by, CallsBy, VersionCallsBy, calls_by}
@@ -202,22 +202,22 @@ module _ (P : Program) (codes : Codes) (call : Begun) (formed : IsWellFormed P) 
       let same = e.4 ∙ ap (λ front. front ++ e.1) e.2 in
       let run2 = subst (λ ws. After P call (s.base_turns + 1) s.printed (give value ws s.memory)) same run' in
       on_stands s since row stack below h (record { top = InBase (resumed w value); waiting = others }) s.memory [] s.entries
-          (record { top = resumed w value; waiting = [] }) e.1 run2 e.3 (omega arith) (omega arith) refl
+      (record { top = resumed w value; waiting = [] }) e.1 run2 e.3 (omega arith) (omega arith) refl
   returns_holds s since row stack below h value (VersionWaits v ∷ others) left e fewer run' =
       resume_holds s since row stack below h value v others e.0 e.1 e.2 e.3 fewer
-          (subst (λ ws. After P call (s.base_turns + 1) s.printed (give value ws s.memory)) e.4 run')
+      (subst (λ ws. After P call (s.base_turns + 1) s.printed (give value ws s.memory)) e.4 run')
 
   -- What the effect of the top activation's instruction owes.
   abbrev Owes : State → Stack → List Waiting → Active → Effect → Type 0
   Owes s stack below top (On next regs m printed) =
       (went : Stack) × (base_turn P stack s.memory ≡ Goes printed (record { stack = went; memory = m })) × (now : Stack) × Same P went now
-          × (RunAt P call (s.base_turns + 1) (s.printed ++ printed) (over went below) m →
-          TopStands P codes call (counted s (record { top = moved_to top next regs; waiting = s.stack.waiting }) m printed s.entries) below 8
-          (moved_to top next regs) now)
+      × (RunAt P call (s.base_turns + 1) (s.printed ++ printed) (over went below) m →
+      TopStands P codes call (counted s (record { top = moved_to top next regs; waiting = s.stack.waiting }) m printed s.entries) below 8
+      (moved_to top next regs) now)
   Owes s stack below top (Calls dest f args next) =
       (left : List Waiting)
-          × (base_turn P stack s.memory ≡ Goes [] (record { stack = record { top = entry_frame P f args; waiting = left }; memory = s.memory }))
-          × PausedIs P codes (paused top next dest) left × Takes P.functions f (length args)
+      × (base_turn P stack s.memory ≡ Goes [] (record { stack = record { top = entry_frame P f args; waiting = left }; memory = s.memory }))
+      × PausedIs P codes (paused top next dest) left × Takes P.functions f (length args)
   Owes s stack below top (Returns value) = base_turn P stack s.memory ≡ Ends (Returned value)
   Owes s stack below top (Faults fault) = base_turn P stack s.memory ≡ Ends (end_of fault)
 
@@ -231,13 +231,13 @@ module _ (P : Program) (codes : Codes) (call : Begun) (formed : IsWellFormed P) 
   enter_holds s since row stack below h look f args caller left turn is_paused takes versions =
       let entry : Stack = record { top = entry_frame P f args; waiting = [] } in
       let run' = run_segment P call s.base_turns s.printed stack below s.memory
-          (Goes [] (record { stack = record { top = entry_frame P f args; waiting = left }; memory = s.memory })) h.run turn in
+      (Goes [] (record { stack = record { top = entry_frame P f args; waiting = left }; memory = s.memory })) h.run turn in
       let waiting' : PausedAre P codes (caller ∷ s.stack.waiting) (left ++ below) = (left, below, is_paused, h.waiting, refl) in
       let en0 = h.counts.entries in
       let en : s.entries + 1 ≤ s.base_turns + 1 + 1 = omega arith in
       by_entry P codes look f args (λ o. Holds P codes call (enters s caller o)) tt
       (on_stands s since row stack below h (record { top = InBase (entry_frame P f args); waiting = caller ∷ s.stack.waiting }) s.memory []
-          (s.entries + 1) entry (left ++ below) run' waiting' (omega arith) (omega arith) refl)
+      (s.entries + 1) entry (left ++ below) run' waiting' (omega arith) (omega arith) refl)
       (λ offset code found.
       let regs' = entry_regs code.regs args in
       let v : VersionFrame = record { function = f; offset = offset; label = code.entry; regs = regs' } in
@@ -246,38 +246,37 @@ module _ (P : Program) (codes : Codes) (call : Begun) (formed : IsWellFormed P) 
       let s' : State = counted s now s.memory [] (s.entries + 1) in
       let backs = own_backs s' (left ++ below) regs' code code.entry entry run' en r in
       let run2 = run_same P call (s.base_turns + 1) (s.printed ++ []) entry (frames_of P r.arrives.place.point regs')
-          (left ++ below) s.memory run' r.arrives.same in
+      (left ++ below) s.memory run' r.arrives.same in
       on_stands s since row stack below h now s.memory [] (s.entries + 1) (frames_of P r.arrives.place.point regs') (left ++ below) run2 waiting' (omega arith)
-          (omega arith)
+      (omega arith)
       (top_at s' (left ++ below) v code entry found r.arrives backs))
 
   by_holds : (s : State) (since row : ℕ) (stack : Stack) (below : List Waiting) → Here s since row stack below → (look : Option Look) (top : Active) →
       ((next : Label) (regs : List ℤ) → versions_on_top (moved_to top next regs) ≡ versions_on_top s.stack.top) →
-      ((next : Label) (dest : Reg) →
-      versions_waiting (paused top next dest ∷ s.stack.waiting) ≡ versions_on_top s.stack.top + versions_waiting s.stack.waiting) → (e : Effect) →
-      Owes s stack below top e → Holds P codes call (turn_by P codes look s top e)
+      ((next : Label) (dest : Reg) → versions_waiting (paused top next dest ∷ s.stack.waiting)
+      ≡ versions_on_top s.stack.top + versions_waiting s.stack.waiting) → (e : Effect) → Owes s stack below top e →
+      Holds P codes call (turn_by P codes look s top e)
   unfolding turn_by ran
   by_holds s since row stack below h look top same_top same_waiting (On next regs m printed) o =
       let run' = run_segment P call s.base_turns s.printed stack below s.memory (Goes printed (record { stack = o.0; memory = m })) h.run o.1 in
       let l = same_top next regs in
       let run2 = run_same P call (s.base_turns + 1) (s.printed ++ printed) o.0 o.2 below m run' o.3 in
       on_stands s since row stack below h (record { top = moved_to top next regs; waiting = s.stack.waiting }) m printed s.entries o.2 below run2 h.waiting
-          (omega arith) (omega arith) (o.4 run')
+      (omega arith) (omega arith) (o.4 run')
   by_holds s since row stack below h look top same_top same_waiting (Calls dest f args next) o =
       enter_holds s since row stack below h look f args (paused top next dest) o.0 o.1 o.2 o.3 (same_waiting next dest)
   by_holds s since row stack below h look top same_top same_waiting (Returns value) o =
       returns_holds s since row stack below h value s.stack.waiting below h.waiting (omega arith)
-          (run_segment P call s.base_turns s.printed stack below s.memory (Ends (Returned value)) h.run o)
+      (run_segment P call s.base_turns s.printed stack below s.memory (Ends (Returned value)) h.run o)
   by_holds s since row stack below h look top same_top same_waiting (Faults fault) o =
       let run' = run_segment P call s.base_turns s.printed stack below s.memory (Ends (end_of fault)) h.run o in
       ends_holds s since row stack below h (end_of fault) (fault_freely fault) s.stack
-          (subst (After P call (s.base_turns + 1) s.printed) (lift_fault fault below s.memory) run')
+      (subst (After P call (s.base_turns + 1) s.printed) (lift_fault fault below s.memory) run')
 
   -- ---- a base frame's turn
 
-  owes_base : (s : State) (below : List Waiting) (fr : Frame) (e : Effect) →
-      base_turn P (record { top = fr; waiting = [] }) s.memory ≡ machine.turn_by P e (record { top = fr; waiting = [] }) s.memory → TakesOf P e →
-      Owes s (record { top = fr; waiting = [] }) below (InBase fr) e
+  owes_base : (s : State) (below : List Waiting) (fr : Frame) (e : Effect) → base_turn P (record { top = fr; waiting = [] }) s.memory
+      ≡ machine.turn_by P e (record { top = fr; waiting = [] }) s.memory → TakesOf P e → Owes s (record { top = fr; waiting = [] }) below (InBase fr) e
   unfolding machine.turn_by give moved_to paused
   owes_base s below fr (On next regs m printed) t takes =
       let went : Stack = record { top = record { function = fr.function; label = next; regs = regs }; waiting = [] } in
@@ -315,7 +314,7 @@ module _ (P : Program) (codes : Codes) (call : Begun) (formed : IsWellFormed P) 
       let k = silent_keeps p.place.instr v.regs s.memory next regs' m' printed carried.instr e in
       subst (λ r. BackStands P call s' below r pair) k.0
       (carried_back P call s below p.place v.regs m' printed now s.entries pair carried run k.1 k.2 (omega arith)
-          (backs (pair_of carried.before pair.point) carried.carried)))
+      (backs (pair_of carried.before pair.point) carried.carried)))
       (step.backs pair i)
 
   owes_version : (s : State) (below : List Waiting) (v : VersionFrame) (p : IsPlaced codes v) →
@@ -326,10 +325,15 @@ module _ (P : Program) (codes : Codes) (call : Begun) (formed : IsWellFormed P) 
   unfolding counted moved_to paused
   owes_version s below v p run en backs (On next regs' m' printed) e step by =
       let v' : VersionFrame = record { function = v.function; offset = v.offset; label = next; regs = regs' } in
-      let now : Stacked = record { top = InVersion v'; waiting = s.stack.waiting } in
-      (step.stack, step.turn, frames_of P step.arrives.place.point regs', step.arrives.same,
-          λ run'. top_at (counted s now m' printed s.entries) below v' p.code step.stack p.found step.arrives
-          (on_backs s below v p next regs' m' printed run en backs e step now run'))
+      let now : Stacked = record { top = InVersion v'; waiting = s.stack.waiting } in (
+        step.stack,
+        step.turn,
+        frames_of P step.arrives.place.point regs',
+        step.arrives.same,
+        λ run'. top_at
+            (counted s now m' printed s.entries) below v' p.code step.stack p.found step.arrives
+            (on_backs s below v p next regs' m' printed run en backs e step now run'),
+      )
   owes_version s below v p run en backs (Calls dest f args next) e step by =
       let frames = frames_of P p.place.point v.regs in
       let base = step.call in
@@ -444,7 +448,7 @@ module _ (P : Program) (codes : Codes) (call : Begun) (formed : IsWellFormed P) 
       pass_holds s since row below v p top h backs next g ahead (step.passes refl)
   version_by_holds s since row below look v p top h backs ahead (Guarded false back target next) eq step by g =
       fail_holds s since row below v p top h back target next (backs (pair_of back target) step.target_in) (few_turns v p (pair_of back target) step.target_in)
-          g ahead
+      g ahead
 
   version_holds : (s : State) (since row : ℕ) (below : List Waiting) (look : Option Look) (v : VersionFrame) (stack : Stack) → s.stack.top ≡ InVersion v →
       Here s since row stack below → VersionTop P codes call s below row v stack → Holds P codes call (turn_in_version P codes look s v (place_in codes v))
@@ -455,7 +459,7 @@ module _ (P : Program) (codes : Codes) (call : Begun) (formed : IsWellFormed P) 
       let step = (sound v.function v.offset p.code p.found).places v.label p.place p.at v.regs s.memory p.admits in
       subst (λ o. Holds P codes call (turn_in_version P codes look s v o)) (sym (place_found codes v p))
       (version_by_holds s since row below look v p top h' t.backs t.ahead (version_effect p.place.instr v.regs s.memory) refl step
-          (calls_by p.place.instr v.regs s.memory) (guarded_by p.place.instr v.regs s.memory))
+      (calls_by p.place.instr v.regs s.memory) (guarded_by p.place.instr v.regs s.memory))
 
   top_holds : (s : State) (since row : ℕ) (stack : Stack) (below : List Waiting) (look : Option Look) (a : Active) → s.stack.top ≡ a →
       Here s since row stack below → TopStands P codes call s below row a stack → Holds P codes call (turn_of P codes look s a)

@@ -32,8 +32,9 @@ use Rattle.cj_draft.specs.BaseBody.{as_version, identity, base_point, base_place
 use Rattle.cj_calls.specs.declared.report.Look.{Look}
 use Rattle.cj_calls.specs.declared.report.Note.{Note}
 use Rattle.cj_calls.specs.declared.report.Report.{Report}
-use Rattle.cj_machine.specs.Versions.{Codes, place_in, moved_to, paused, version_entry, entered_at, offset_told, entered, counted, enters, resumed_by,
-    resumed_at, returns_to, turn_by, passed, keep_note, rebuilt, version_turn_by, turn_in_base, turn_in_version, turn_of, version_turn}
+use Rattle.cj_machine.specs.Versions.{Codes, place_in, moved_to, paused, version_entry, entered_at, offset_told, entered, counted, enters, resumed_by}
+use Rattle.cj_machine.specs.Versions.{resumed_at, returns_to, turn_by, passed, keep_note, rebuilt, version_turn_by, turn_in_base, turn_in_version, turn_of}
+use Rattle.cj_machine.specs.Versions.{version_turn}
 use Rattle.cj_machine.specs.VersionRuns.{first_state, begins_in, version_start, one_turn_more, version_run, report_of, if_used, report_at, version_report}
 
 -- ---- programs and codes, by their numbers
@@ -82,8 +83,10 @@ noted o = option_map (λ x. x.notes) o
 -- ---- an immediate Assume: r = n * 2, print r, return r, guessed at n = 5
 
 doubles : Program
-doubles = record { functions = function 1 2 (base.Op (reg 1) (Mul (r 0) (operand.Const (pos 2))) (label 1) ∷ base.Print (r 1) (label 2) ∷ base.Return (r 1)
-    ∷ []) ∷ [] }
+doubles = record {
+  functions = function 1 2 (base.Op (reg 1) (Mul (r 0) (operand.Const (pos 2))) (label 1) ∷ base.Print (r 1) (label 2) ∷ base.Return (r 1)
+      ∷ []) ∷ [];
+}
 
 at_doubles : ℕ → Point
 at_doubles l = record { frames = frame 0 l 0 (r 0 ∷ r 1 ∷ []) ∷ [] }
@@ -100,16 +103,16 @@ guarded_double = record {
       ∷ [];
 }
 
-guard_holds_at_5 : told (version_report doubles (only guarded_double) (look 0 2 ∷ []) (call_of (pos 5 ∷ []))) ≡ Some
-    (wrap (pos 10) ∷ [], Returned (wrap (pos 10)), 4, 3, 0)
+guard_holds_at_5 : told (version_report doubles (only guarded_double) (look 0 2 ∷ []) (call_of (pos 5 ∷ [])))
+    ≡ Some (wrap (pos 10) ∷ [], Returned (wrap (pos 10)), 4, 3, 0)
 unfolding version_report report_at if_used report_of version_run one_turn_more version_start begins_in first_state version_turn turn_of turn_in_version
     turn_in_base version_turn_by rebuilt keep_note passed turn_by returns_to resumed_at resumed_by enters counted entered offset_told entered_at version_entry
     paused moved_to place_in guard_holds guards_hold moved version_effect frame_regs top_of waiting_of stack_of frames_of with_value branch op_effect effect
     end_of entry_regs entry_frame waits resumed fun label reg r lines function place frame only call_of look told doubles at_doubles guarded_double
 guard_holds_at_5 = refl
 
-guard_fails_at_6 : told (version_report doubles (only guarded_double) (look 0 2 ∷ []) (call_of (pos 6 ∷ []))) ≡ Some
-    (wrap (pos 12) ∷ [], Returned (wrap (pos 12)), 4, 3, 1)
+guard_fails_at_6 : told (version_report doubles (only guarded_double) (look 0 2 ∷ []) (call_of (pos 6 ∷ [])))
+    ≡ Some (wrap (pos 12) ∷ [], Returned (wrap (pos 12)), 4, 3, 1)
 unfolding version_report report_at if_used report_of version_run one_turn_more version_start begins_in first_state version_turn turn_of turn_in_version
     turn_in_base version_turn_by rebuilt keep_note passed turn_by returns_to resumed_at resumed_by enters counted entered offset_told entered_at version_entry
     paused moved_to place_in guard_holds guards_hold moved version_effect frame_regs top_of waiting_of stack_of frames_of with_value branch op_effect effect
@@ -119,8 +122,10 @@ guard_fails_at_6 = refl
 -- ---- a delayed Assume takes its turn back: cond n, print 1 or print 2, return n
 
 branches : Program
-branches = record { functions = function 1 1 (base.Cond (r 0) (label 1) (label 2) ∷ base.Print (operand.Const (pos 1)) (label 3)
-    ∷ base.Print (operand.Const (pos 2)) (label 3) ∷ base.Return (r 0) ∷ []) ∷ [] }
+branches = record {
+  functions = function 1 1 (base.Cond (r 0) (label 1) (label 2) ∷ base.Print (operand.Const (pos 1)) (label 3)
+      ∷ base.Print (operand.Const (pos 2)) (label 3) ∷ base.Return (r 0) ∷ []) ∷ [];
+}
 
 at_branches : ℕ → Point
 at_branches l = record { frames = frame 0 l 0 (r 0 ∷ []) ∷ [] }
@@ -138,8 +143,8 @@ cold_branch = record {
       ∷ [];
 }
 
-delayed_assume_takes_its_turn_back : told (version_report branches (only cold_branch) (look 0 2 ∷ []) (call_of (pos 0 ∷ []))) ≡ Some
-    (pos 2 ∷ [], Returned (pos 0), 5, 3, 1)
+delayed_assume_takes_its_turn_back : told (version_report branches (only cold_branch) (look 0 2 ∷ []) (call_of (pos 0 ∷ [])))
+    ≡ Some (pos 2 ∷ [], Returned (pos 0), 5, 3, 1)
 unfolding version_report report_at if_used report_of version_run one_turn_more version_start begins_in first_state version_turn turn_of turn_in_version
     turn_in_base version_turn_by rebuilt keep_note passed turn_by returns_to resumed_at resumed_by enters counted entered offset_told entered_at version_entry
     paused moved_to place_in guard_holds guards_hold moved version_effect frame_regs top_of waiting_of stack_of frames_of with_value branch op_effect effect
@@ -169,12 +174,12 @@ two_inlined_frames =
           ∷ place (record { frames = frame 1 0 0 (r 2 ∷ r 3 ∷ []) ∷ main ∷ [] }) (Move (record { dest = reg 4; value = r 2 } ∷ []) (label 2))
           ∷ place (record { frames = frame 2 0 0 (r 4 ∷ []) ∷ mid ∷ main ∷ [] }) (Print (r 4) (label 3))
           ∷ place (record { frames = frame 2 1 0 (r 4 ∷ []) ∷ mid ∷ main ∷ [] })
-              (Assume (Never ∷ []) 0 (record { frames = frame 2 1 0 (r 4 ∷ []) ∷ mid ∷ main ∷ [] }) (label 3))
+          (Assume (Never ∷ []) 0 (record { frames = frame 2 1 0 (r 4 ∷ []) ∷ mid ∷ main ∷ [] }) (label 3))
           ∷ [];
     }
 
-two_frames_are_rebuilt : told (version_report nested (only two_inlined_frames) (look 0 2 ∷ []) (call_of (pos 5 ∷ []))) ≡ Some
-    (pos 5 ∷ [], Returned (wrap (pos 6)), 8, 7, 1)
+two_frames_are_rebuilt : told (version_report nested (only two_inlined_frames) (look 0 2 ∷ []) (call_of (pos 5 ∷ [])))
+    ≡ Some (pos 5 ∷ [], Returned (wrap (pos 6)), 8, 7, 1)
 unfolding version_report report_at if_used report_of version_run one_turn_more version_start begins_in first_state version_turn turn_of turn_in_version
     turn_in_base version_turn_by rebuilt keep_note passed turn_by returns_to resumed_at resumed_by enters counted entered offset_told entered_at version_entry
     paused moved_to place_in guard_holds guards_hold moved version_effect frame_regs top_of waiting_of stack_of frames_of with_value branch op_effect effect
@@ -199,8 +204,8 @@ the_rebuilt_frames = refl
 bodies : Codes
 bodies f offset = Some (base_code nested f)
 
-versions_call_versions : told (version_report nested bodies (look 0 2 ∷ look 1 3 ∷ look 2 0 ∷ []) (call_of (pos 5 ∷ []))) ≡ Some
-    (pos 5 ∷ [], Returned (wrap (pos 6)), 7, 7, 0)
+versions_call_versions : told (version_report nested bodies (look 0 2 ∷ look 1 3 ∷ look 2 0 ∷ []) (call_of (pos 5 ∷ [])))
+    ≡ Some (pos 5 ∷ [], Returned (wrap (pos 6)), 7, 7, 0)
 unfolding version_report report_at if_used report_of version_run one_turn_more version_start begins_in first_state version_turn turn_of turn_in_version
     turn_in_base version_turn_by rebuilt keep_note passed turn_by returns_to resumed_at resumed_by enters counted entered offset_told entered_at version_entry
     paused moved_to place_in guard_holds guards_hold moved version_effect frame_regs top_of waiting_of stack_of frames_of with_value branch op_effect effect

@@ -86,8 +86,8 @@ StaysIn v new step = ⊤
 pub record IsVersionStep (instr : VInstr) (args : List ℤ) (old new : State) (step : Step) : Type 0 where
   pub made : (P : Program) (v : VersionFrame) → old.stack.top ≡ InVersion v →
       IsStep P (λ codes look. version_turn_by P codes look old v (version_effect instr v.regs old.memory)) args old new step
-  pub marks : (v : VersionFrame) → old.stack.top ≡ InVersion v →
-      version_marks v (version_effect instr v.regs old.memory) ≡ marks_told step v.function v.label args
+  pub marks : (v : VersionFrame) → old.stack.top ≡ InVersion v → version_marks v (version_effect instr v.regs old.memory)
+      ≡ marks_told step v.function v.label args
   pub needs : VersionNeeds instr args step
   pub stays : (v : VersionFrame) → old.stack.top ≡ InVersion v → StaysIn v new step
 

@@ -1,6 +1,6 @@
 -- Lists that grow by what each item gives.
-use Rattle.std.proofs.Common.{◌≡◌, ℕ, zero, suc, ◌+◌, ◌<◌, ◌≤◌, List, [], ◌∷◌, ◌++◌, length, take, get_or, refl, sym, ap, ◌∙◌, append_assoc, append-nil,
-    length-append, arith}
+use Rattle.std.proofs.Common.{◌≡◌, ℕ, zero, suc, ◌+◌, ◌<◌, ◌≤◌, List, [], ◌∷◌, ◌++◌, length, take, get_or, refl, sym, ap, ◌∙◌, append_assoc, append-nil}
+use Rattle.std.proofs.Common.{length-append, arith}
 use Rattle.std.proofs.lemmas.List.{take_more, length-take-le}
 use Rattle.cj_plan.specs.Plan.{each_from}
 
@@ -18,10 +18,10 @@ module _ {A B : Type 0} (give : ℕ → A → List B) where
       let l = length-take-le i xs (omega arith) in
       let z : 0 + length (take i xs) ≡ i = omega arith in
       ap (each_from give 0) (take_more xs i d h)
-          ∙ (each_push 0 (take i xs) (get_or xs i d) ∙ ap (λ k. each_from give 0 (take i xs) ++ give k (get_or xs i d)) z)
+      ∙ (each_push 0 (take i xs) (get_or xs i d) ∙ ap (λ k. each_from give 0 (take i xs) ++ give k (get_or xs i d)) z)
 
-  pub each_at : (xs : List A) (i : ℕ) (x : A) → i < length xs → x ≡ get_or xs i x →
-      each_from give 0 (take (i + 1) xs) ≡ each_from give 0 (take i xs) ++ give i x
+  pub each_at : (xs : List A) (i : ℕ) (x : A) → i < length xs → x ≡ get_or xs i x → each_from give 0 (take (i + 1) xs) ≡ each_from give 0 (take i xs)
+      ++ give i x
   each_at xs i x h e = each_more xs i x h ∙ ap (λ y. each_from give 0 (take i xs) ++ give i y) (sym e)
 
 module _ {A : Type 0} where

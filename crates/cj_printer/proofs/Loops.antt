@@ -16,7 +16,7 @@ turn g before now all xs i x h is left step =
     let rest = flat_map g (drop (i + 1) xs) in
     let next : drop i xs ≡ x ∷ drop (i + 1) xs = rw (← is) at (drop_more xs i x h) in
     let text : pieces_text (flat_map g (drop i xs)) ≡ pieces_text (g x) ++ pieces_text rest = ap (λ ys. pieces_text (flat_map g ys)) next
-        ∙ pieces-append (g x) rest in
+    ∙ pieces-append (g x) rest in
     ap (λ t. t ++ pieces_text rest) step ∙ append_assoc before (pieces_text (g x)) (pieces_text rest) ∙ ap (λ t. before ++ t) (sym text) ∙ left
 
 pub done : {X : Type 0} (g : X → List Piece) (now all : List ℕ) (xs : List X) (i : ℕ) → length xs ≤ i → now ++ pieces_text (flat_map g (drop i xs)) ≡ all →
@@ -33,7 +33,7 @@ turn_mapped g h before now all xs i x below is left step =
     let rest = flat_map g (map h (drop (i + 1) xs)) in
     let next : drop i xs ≡ x ∷ drop (i + 1) xs = rw (← is) at (drop_more xs i x below) in
     let text : pieces_text (flat_map g (map h (drop i xs))) ≡ pieces_text (g (h x)) ++ pieces_text rest = ap (λ ys. pieces_text (flat_map g (map h ys))) next
-        ∙ pieces-append (g (h x)) rest in
+    ∙ pieces-append (g (h x)) rest in
     ap (λ t. t ++ pieces_text rest) step ∙ append_assoc before (pieces_text (g (h x))) (pieces_text rest) ∙ ap (λ t. before ++ t) (sym text) ∙ left
 
 pub done_mapped : {X Y : Type 0} (g : Y → List Piece) (h : X → Y) (now all : List ℕ) (xs : List X) (i : ℕ) → length xs ≤ i →
@@ -47,8 +47,8 @@ pub turn_each : {X : Type 0} (k : X → Piece) (before now all : List ℕ) (xs :
     before ++ pieces_text (map k (drop i xs)) ≡ all → now ≡ before ++ piece_text (k (get_or xs i d)) → now ++ pieces_text (map k (drop (i + 1) xs)) ≡ all
 turn_each k before now all xs i d below left step =
     let rest = map k (drop (i + 1) xs) in
-    let text : pieces_text (map k (drop i xs)) ≡ piece_text (k (get_or xs i d)) ++ pieces_text rest = ap (λ ys. pieces_text (map k ys))
-        (drop_more xs i d below) in
+    let text : pieces_text (map k (drop i xs)) ≡ piece_text (k (get_or xs i d))
+    ++ pieces_text rest = ap (λ ys. pieces_text (map k ys)) (drop_more xs i d below) in
     ap (λ t. t ++ pieces_text rest) step ∙ append_assoc before (piece_text (k (get_or xs i d))) (pieces_text rest) ∙ ap (λ t. before ++ t) (sym text) ∙ left
 
 pub done_each : {X : Type 0} (k : X → Piece) (now all : List ℕ) (xs : List X) (i : ℕ) → length xs ≤ i → now ++ pieces_text (map k (drop i xs)) ≡ all → now ≡ all

@@ -167,7 +167,7 @@ setup_pieces functions (Warm function level) =
 unfoldable pub call_pieces : List Function → ScriptCall → List Piece
 call_pieces functions call =
     word_pieces functions (codes "call") call.function ++ map value_piece call.args ++ named_pieces (codes "memory") call.cells
-        ++ named_pieces (codes "limit") call.limit
+    ++ named_pieces (codes "limit") call.limit
 
 unfoldable pub script_pieces : List Function → Script → List Piece
 script_pieces functions s =

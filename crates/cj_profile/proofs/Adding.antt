@@ -17,8 +17,13 @@ pub adds_on : (a b c : ProfileSeat) (p q : List Read) → Adds p a b → Adds q 
 adds_on a b c p q first then = then ∙ (ap (λ rs. rs ++ q) first ∙ append_assoc (reads_of a) p q)
 
 pub same_on : (a b c : ProfileSeat) → IsSame a b → IsSame b c → IsSame a c
-same_on a b c first then = record { first = then.first ∙ first.first; sole = then.sole ∙ first.sole; splits = then.splits ∙ first.splits;
-    joined = then.joined ∙ first.joined }
+same_on a b c first then = record {
+  first = then.first ∙ first.first;
+  sole = then.sole ∙ first.sole;
+  splits = then.splits ∙ first.splits;
+  joined = then.joined
+      ∙ first.joined;
+}
 
 pub keeps_on : (a b c : ProfileSeat) → AddsPart (All Keeps) a b → AddsPart (All Keeps) b c → AddsPart (All Keeps) a c
 keeps_on a b c first then = (first.0 ++ then.0, All-append Keeps first.0 then.0 first.1 then.1, adds_on a b c first.0 then.0 first.2 then.2)
@@ -30,7 +35,7 @@ load_keeps a b w n e = (load w n ∷ [], All-cons Keeps (load w n) [] refl (All-
 pub belongs_on : (t : Profile) (a b : ProfileSeat) (i : ℕ) (found : Option ℕ) (left : ℕ) → i < word_count (program_of t) → Belongs t a →
     b.seat.table_id ≡ a.seat.table_id
     → Follows (view_of a) (view_of b) (record { word = i; found = found; left = left }) →
-        (IsSole a → i < word_count (view_of a).program → Finds (reads_of a) i found) → Belongs t b
+    (IsSole a → i < word_count (view_of a).program → Finds (reads_of a) i found) → Belongs t b
 belongs_on t a b i found left within own table step told = record {
   table = table ∙ own.table;
   live = step.live ∙ own.live;

@@ -1,6 +1,7 @@
 -- Each step keeps the rule.
-use Rattle.std.proofs.Common.{◌≡◌, ◌≢◌, ℕ, zero, suc, ◌+◌, ◌%◌, ◌^◌, ◌<◌, ◌≤◌, eqb, eq-eqb, ne_eqb, Bool, if◌then◌else◌, true, true≢false, List, [], ◌∷◌, ◌++◌,
-    length, set, get_or, max, Option, Some, None, refl, sym, ap, ◌∙◌, subst, ⊎_elim, arith, length-set, get_or-set_other, get_or-set_same}
+use Rattle.std.proofs.Common.{◌≡◌, ◌≢◌, ℕ, zero, suc, ◌+◌, ◌%◌, ◌^◌, ◌<◌, ◌≤◌, eqb, eq-eqb, ne_eqb, Bool, if◌then◌else◌, true, true≢false, List, [], ◌∷◌, ◌++◌}
+use Rattle.std.proofs.Common.{length, set, get_or, max, Option, Some, None, refl, sym, ap, ◌∙◌, subst, ⊎_elim, arith, length-set, get_or-set_other}
+use Rattle.std.proofs.Common.{get_or-set_same}
 use mathlib.Core.Option.{none, some, some-ne-none}
 use mathlib.Core.Logic.{dite}
 use native.Mathlib.Decide.{ℕ_discrete}
@@ -22,8 +23,15 @@ abbrev pub IsApart : Program → ℕ → Type 0
 IsApart p i = (f : FunId) → f.0 < length p.functions → i ≡ number (Asked f) → ⊥
 
 abbrev with_read : View → ℕ → Option ℕ → ℕ → View
-with_read v i found left = record { live = v.live; sole = v.sole; program = v.program; reads = v.reads ++ record { word = i; found = found; left = left } ∷ [];
-    joined = v.joined; splits = v.splits }
+with_read v i found left = record {
+  live = v.live;
+  sole = v.sole;
+  program = v.program;
+  reads = v.reads ++ record { word = i; found = found; left = left }
+      ∷ [];
+  joined = v.joined;
+  splits = v.splits;
+}
 
 follows : (v : View) (i : ℕ) (found : Option ℕ) (left : ℕ) → Follows v (with_read v i found left) (record { word = i; found = found; left = left })
 follows v i found left = record { live = refl; sole = refl; program = refl; reads = refl; joined = refl; splits = refl }
@@ -53,9 +61,9 @@ module _ {S : Type 0} where
       let more = left_more k 0 v.reads (record { word = i; found = found; left = n }) in
       dite (ℕ_discrete k i)
       (λ e. ap (λ (j : ℕ). get_or (set s.words i n) j 0) e ∙ get_or-set_same s.words i n 0 (omega arith)
-          ∙ sym (more ∙ ap (λ (b : Bool). if b then n else left_in k 0 v.reads) (eq-eqb i k (sym e))))
+      ∙ sym (more ∙ ap (λ (b : Bool). if b then n else left_in k 0 v.reads) (eq-eqb i k (sym e))))
       (λ ne. get_or-set_other s.words i k n 0 ne ∙ own k (omega arith)
-          ∙ sym (more ∙ ap (λ (b : Bool). if b then n else left_in k 0 v.reads) (ne_eqb i k (λ e. ne (sym e)))))
+      ∙ sym (more ∙ ap (λ (b : Bool). if b then n else left_in k 0 v.reads) (ne_eqb i k (λ e. ne (sym e)))))
 
   -- a step that leaves n in the word i, which is at most 3 where that word is an asked level
   left : (p : Program) (s : State S View) (r : Ruled p s) (i n id : ℕ) (cs : List (ℕ × S)) (v : View) (found : Option ℕ) → get_elem? s.views id ≡ some v
@@ -66,13 +74,13 @@ module _ {S : Type 0} where
         sized = length-set s.words i n ∙ r.sized;
         asked = λ f lt. let old = r.asked f lt in let sized = r.sized in dite (ℕ_discrete (number (Asked f)) i)
             (λ e. let z : get_or (set s.words i n) (number (Asked f)) 0 ≡ n = ap (λ (j : ℕ). get_or (set s.words i n) j 0) e
-                ∙ get_or-set_same s.words i n 0 (omega arith) in let l = low f lt (sym e) in omega arith)
-            (λ ne. let z : get_or (set s.words i n) (number (Asked f)) 0 ≡ get_or s.words (number (Asked f)) 0 = get_or-set_other s.words i
-                (number (Asked f)) n 0 ne in omega arith);
+            ∙ get_or-set_same s.words i n 0 (omega arith) in let l = low f lt (sym e) in omega arith)
+            (λ ne. let z : get_or (set s.words i n) (number (Asked f)) 0
+            ≡ get_or s.words (number (Asked f)) 0 = get_or-set_other s.words i (number (Asked f)) n 0 ne in omega arith);
         views = views_set p s r id w (r.views id v at);
         sole = λ j u e. ⊎_elim
             (λ (t : (j ≡ id) × (w ≡ u)). subst (λ (y : View). y.sole ≡ true → IsSoleIn (stepped s i n id cs w keeps) y) t.1
-                (λ only. let own = r.sole id v at only in (length-set s.views id w ∙ own.0, one_left s i n v found own.1)))
+            (λ only. let own = r.sole id v at only in (length-set s.views id w ∙ own.0, one_left s i n v found own.1)))
             (λ (t : (j ≢ id) × (get_elem? s.views j ≡ some u)). λ only. absurd (t.0 (sym (alone p s r j u t.1 only id v at))))
             (at_set s.views id j w u e);
       }
@@ -88,7 +96,7 @@ module _ {S : Type 0} where
     loads s r _ at _ =
         let n : ℕ = get_or s.words i 0 in
         let low : (f : FunId) → f.0 < length p.functions → i ≡ number (Asked f) →
-            n ≤ 3 = λ f lt e. subst (λ (j : ℕ). get_or s.words j 0 ≤ 3) (sym e) (r.asked f lt) in
+        n ≤ 3 = λ f lt e. subst (λ (j : ℕ). get_or s.words j 0 ≤ 3) (sym e) (r.asked f lt) in
         let own = r.views id me.0 at live in (
           with_read me.0 i (Some n) n,
           keeps,
@@ -104,9 +112,14 @@ module _ {S : Type 0} where
     pub adds : (c : ℕ) → IsApart p i → Allows (Ruled p) slots id me i (λ n. (n + c) % 2 ^ 64) (added (step slots i c 0 none) me)
     adds c apart s r _ at _ =
         let n : ℕ = get_or s.words i 0 in
-        let m : ℕ = (n + c) % 2 ^ 64 in
-        (with_read me.0 i (Some n) m, keeps, tt, left p s r i m id me.1 me.0 (Some n) at (λ f lt e. absurd (apart f lt e)),
-            ((follows me.0 i (Some n) m, refl), finds_own s r at))
+        let m : ℕ = (n + c) % 2 ^ 64 in (
+          with_read me.0 i (Some n) m,
+          keeps,
+          tt,
+          left p s r i m id me.1 me.0 (Some n) at
+              (λ f lt e. absurd (apart f lt e)),
+          ((follows me.0 i (Some n) m, refl), finds_own s r at),
+        )
 
     pub raises : (c : ℕ) → c ≤ 3 → Allows (Ruled p) slots id me i (λ n. max n c) (raised (step slots i c 0 none) me)
     raises c low s r _ at _ =
@@ -122,9 +135,14 @@ module _ {S : Type 0} where
     pub exchanges : (old new : ℕ) → IsApart p i → Allows (Ruled p) slots id me i (λ n. either (eqb n old) new n) (exchanged (step slots i old new none) me)
     exchanges old new apart s r _ at _ =
         let n : ℕ = get_or s.words i 0 in
-        let m : ℕ = either (eqb n old) new n in
-        (with_read me.0 i (Some n) m, keeps, tt, left p s r i m id me.1 me.0 (Some n) at (λ f lt e. absurd (apart f lt e)),
-            ((follows me.0 i (Some n) m, refl), finds_own s r at))
+        let m : ℕ = either (eqb n old) new n in (
+          with_read me.0 i (Some n) m,
+          keeps,
+          tt,
+          left p s r i m id me.1 me.0 (Some n) at
+              (λ f lt e. absurd (apart f lt e)),
+          ((follows me.0 i (Some n) m, refl), finds_own s r at),
+        )
 
   pub splits : (p : Program) (id : ℕ) (v : View) → Splits (Ruled {S = S} p) id v (shared v) (given v)
   splits p id v s r at = record {

@@ -23,9 +23,14 @@ params_push f k [] arg rs part h one =
     let z : k + zero ≡ k = omega arith in
     (part, [], subst (λ n. ParamPart f n arg part) z one, refl, ap (λ xs. xs ++ part) h ∙ sym (append-nil part))
 params_push f k (a ∷ args) arg rs part h one =
-    let z : k + suc (length args) ≡ suc k + length args = omega arith in
-    (h.0, h.1 ++ part, h.2, params_push f (suc k) args arg h.1 part h.3 (subst (λ n. ParamPart f n arg part) z one),
-        ap (λ xs. xs ++ part) h.4 ∙ append_assoc h.0 h.1 part)
+    let z : k + suc (length args) ≡ suc k + length args = omega arith in (
+      h.0,
+      h.1 ++ part,
+      h.2,
+      params_push f (suc k) args arg h.1 part h.3 (subst (λ n. ParamPart f n arg part) z one),
+      ap (λ xs. xs ++ part) h.4
+          ∙ append_assoc h.0 h.1 part,
+    )
 
 -- ---- the notes of a snapshot
 
@@ -43,7 +48,7 @@ module _ {N : Type 0} (loads : ℕ → N → List Read) where
   note_more a b c notes longer note pushed before one =
       let z : 0 + length notes ≡ length notes = omega arith in
       let all : each_loads loads 0 longer ≡ each_loads loads 0 notes ++ loads (length notes) note = ap (each_loads loads 0) pushed
-          ∙ (loads_push 0 notes note ∙ ap (λ n. each_loads loads 0 notes ++ loads n note) z) in
+      ∙ (loads_push 0 notes note ∙ ap (λ n. each_loads loads 0 notes ++ loads n note) z) in
       subst (λ rs. Adds rs a c) (sym all) (adds_on a b c (each_loads loads 0 notes) (loads (length notes) note) before one)
 
   module _ (keeps : (k : ℕ) (note : N) → All Keeps (loads k note)) where
@@ -63,10 +68,10 @@ module _ {N : Type 0} (loads : ℕ → N → List Read) where
 pub param_keeps : (f : FunId) (k : ℕ) (note : ParamNote) → All Keeps (param_loads f k note)
 param_keeps f k x =
     All-cons Keeps (load (Last f k) (value_word x.last)) (load (Agreed f k) x.agreed ∷ []) refl
-        (All-cons Keeps (load (Agreed f k) x.agreed) [] refl (All-nil Keeps))
+    (All-cons Keeps (load (Agreed f k) x.agreed) [] refl (All-nil Keeps))
 
 pub edge_keeps : (f : FunId) (k : ℕ) (note : EdgeNote) → All Keeps (edge_loads f k note)
 edge_keeps f k x =
     let label : Label = record { 0 = k } in
     All-cons Keeps (load (Way f label Then) x.then_count) (load (Way f label Else) x.else_count ∷ []) refl
-        (All-cons Keeps (load (Way f label Else) x.else_count) [] refl (All-nil Keeps))
+    (All-cons Keeps (load (Way f label Else) x.else_count) [] refl (All-nil Keeps))

@@ -5,8 +5,8 @@ use Rattle.cj_ir.specs.declared.language.Function.{Function}
 use Rattle.cj_profile.specs.declared.profile.Shape.{Shape}
 use Rattle.cj_profile.specs.Shapes.{shape_of}
 
-pub shape_at : (fs : List Function) (n : ℕ) (d : Shape) → n < length fs →
-    ((get_or (map shape_of fs) n d).params ≡ params_of (slice_get fs n)) × ((get_or (map shape_of fs) n d).labels ≡ labels_of (slice_get fs n))
+pub shape_at : (fs : List Function) (n : ℕ) (d : Shape) → n < length fs → ((get_or (map shape_of fs) n d).params ≡ params_of (slice_get fs n))
+    × ((get_or (map shape_of fs) n d).labels ≡ labels_of (slice_get fs n))
 shape_at [] n d h = absurd (omega arith)
 shape_at (f ∷ fs) zero d h = (refl, refl)
 shape_at (f ∷ fs) (suc n) d h = shape_at fs n d (omega arith)

@@ -40,5 +40,5 @@ answers_of p (suc count) next answer rs le t =
     ⊎_elim
     (λ (a : Answers (numbered next) answer rs). answer_of p next a.0 a.1 answer a.2 lt a.3 a.4 a.5)
     (λ (b : (part : List Read) × (rest : List Read) × IsPassed (numbered next) part × TakesJob count (suc next) answer rest × (rs ≡ part ++ rest)). answers_of
-        p count (suc next) answer b.1 more b.3)
+    p count (suc next) answer b.1 more b.3)
     t

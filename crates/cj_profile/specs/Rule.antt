@@ -1,7 +1,7 @@
 -- The rule of a profile's words, which holds between any two steps: asked levels are 0 to 3. It says nothing of counts,
 -- but that the only seat there ever was has itself made whatever stands in the words, which were 0 at first.
-use Rattle.std.specs.Prelude.{◌≡◌, ℕ, ◌+◌, ◌%◌, ◌^◌, ◌<◌, ◌≤◌, ◌==◌, max, Bool, true, false, Option, Some, None, [], ◌∷◌, ◌++◌, length, slice_index,
-    if◌then◌else◌}
+use Rattle.std.specs.Prelude.{◌≡◌, ℕ, ◌+◌, ◌%◌, ◌^◌, ◌<◌, ◌≤◌, ◌==◌, max, Bool, true, false, Option, Some, None, [], ◌∷◌, ◌++◌, length, slice_index}
+use Rattle.std.specs.Prelude.{if◌then◌else◌}
 use mathlib.Core.Option.{some}
 use lib.ListN.{get_elem?}
 use Rattle.atomic_table.specs.Table.{State, Me, Step}

@@ -4,8 +4,8 @@ use Rattle.cj_ir.specs.declared.language.Program.{Program}
 use Rattle.cj_tokens.specs.Ends.{HasOneEnd}
 use Rattle.cj_tokens.specs.Lexemes.{Lexeme}
 use Rattle.cj_tokens.specs.declared.refusal.Refused.{Refused}
-use Rattle.cj_grammar.specs.Rules.{operand, more_operands, operands, more_names, names, binary, expr, target, nop_instr, op_instr, cond_instr, call_instr,
-    return_instr, print_instr, load_instr, store_instr, fail_instr, instr, line, lines, head, fun, more_funs, funs}
+use Rattle.cj_grammar.specs.Rules.{operand, more_operands, operands, more_names, names, binary, expr, target, nop_instr, op_instr, cond_instr, call_instr}
+use Rattle.cj_grammar.specs.Rules.{return_instr, print_instr, load_instr, store_instr, fail_instr, instr, line, lines, head, fun, more_funs, funs}
 use Rattle.cj_grammar.specs.Readers.{reads}
 use Rattle.cj_grammar.specs.Shapes.{HasFunctions}
 use Rattle.cj_grammar.proofs.ContentsLaws.{end_stays}

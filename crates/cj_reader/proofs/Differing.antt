@@ -15,7 +15,7 @@ behind {A} key earlier [] before new = subst (λ (zs : List A). AllDifferBy key 
 behind {A} key earlier (x ∷ xs) before new =
     let P : A → Type 0 = λ other. key other ≢ key x in
     let more : AllDifferBy key (earlier ++ x ∷ []) = all_pairs_push (λ (a b : A). key a ≢ key b) earlier x before
-        (λ k d below. All-get_or P earlier k d below new.0) in
+    (λ k d below. All-get_or P earlier k d below new.0) in
     subst (λ (zs : List A). AllDifferBy key zs) (append_assoc earlier (x ∷ []) xs) (behind key (earlier ++ x ∷ []) xs more new.1)
 
 none_differ : {A B : Type 0} (key : A → B) → AllDifferBy {A = A} key []

@@ -1,6 +1,6 @@
 -- Where a function's tokens have no offences, the function is well formed.
-use Rattle.std.proofs.Common.{◌≡◌, ◌≢◌, ℕ, ℤ, pos, negsuc, ◌+◌, ◌<◌, ◌≤◌, List, [], ◌∷◌, ◌++◌, length, true, false, refl, ap, sym, ◌∙◌, arith, All, not, subst,
-    length-append, Some}
+use Rattle.std.proofs.Common.{◌≡◌, ◌≢◌, ℕ, ℤ, pos, negsuc, ◌+◌, ◌<◌, ◌≤◌, List, [], ◌∷◌, ◌++◌, length, true, false, refl, ap, sym, ◌∙◌, arith, All, not, subst}
+use Rattle.std.proofs.Common.{length-append, Some}
 use Rattle.std.specs.Prelude.{nat_le, ◌==◌, map}
 use Rattle.std.specs.List.{list_any}
 use Rattle.std.specs.Ordering.{int_eq}
@@ -22,8 +22,9 @@ use Rattle.cj_reader.specs.declared.scope.Callee.{Callee}
 use Rattle.cj_reader.specs.Scopes.{Scope, Head, first_named}
 use Rattle.cj_reader.specs.Operands.{is_line_number}
 use Rattle.cj_reader.specs.Instructions.{instr_offences}
-use Rattle.cj_reader.specs.Functions.{name_offences, names_offences, texts_of, function_name, param_tokens, other_tokens, head_offences, number_offences,
-    line_number, line_offences, natural, line_of, numbers_of, lines_offences, lines_of, function_scope, function_offences, function_of}
+use Rattle.cj_reader.specs.Functions.{name_offences, names_offences, texts_of, function_name, param_tokens, other_tokens, head_offences, number_offences}
+use Rattle.cj_reader.specs.Functions.{line_number, line_offences, natural, line_of, numbers_of, lines_offences, lines_of, function_scope, function_offences}
+use Rattle.cj_reader.specs.Functions.{function_of}
 use Rattle.cj_reader.proofs.LineLaws.{number}
 use Rattle.cj_grammar.proofs.Unoffended.{none_of, none_if}
 use Rattle.cj_reader.proofs.Fine.{below, some_items, from_within}
@@ -48,12 +49,12 @@ name_is : (s : Scope) (t : Tree line) → (line_of s t).name ≡ natural (number
 unfolding line line_of line_number
 name_is s (n, (colon, i)) = refl
 
-new_number : (s : Scope) (x : ℤ) (done : List (Tree line)) → is_line_number x ≡ true → All Numbered done →
-    list_any (λ other. int_eq other x) (map number done) ≡ false → All (λ other. other.name ≢ natural x) (map (line_of s) done)
+new_number : (s : Scope) (x : ℤ) (done : List (Tree line)) → is_line_number x ≡ true → All Numbered done → list_any (λ other. int_eq other x) (map number done)
+    ≡ false → All (λ other. other.name ≢ natural x) (map (line_of s) done)
 new_number s x [] r all h = All-nil (λ (other : Line). other.name ≢ natural x)
 new_number s x (d ∷ done) r all h =
     let p : (int_eq (number d) x ≡ false) × (list_any (λ other. int_eq other x) (map number done) ≡ false) = or_parts (int_eq (number d) x)
-        (list_any (λ other. int_eq other x) (map number done)) h in
+    (list_any (λ other. int_eq other x) (map number done)) h in
     let here : (line_of s d).name ≢ natural x = λ e.
     let same : number d ≡ x = natural_same (number d) x (All-head Numbered d done all) r (sym (name_is s d) ∙ e) in
     let t : int_eq (number d) x ≡ true = (Decides-int_eq (number d) x).1 same in cc in
@@ -67,11 +68,11 @@ record NumberFine (earlier : List ℤ) (t : Lexeme) : Type 0 where
 number_fine : (earlier : List ℤ) (t : Lexeme) → number_offences earlier t ≡ [] → NumberFine earlier t
 number_fine earlier t h =
     let rest : List Refused = offends_if (not (is_line_number t.number)) t Range
-        ++ offends_if (list_any (λ other. int_eq other t.number) earlier) t LabelTwice in
+    ++ offends_if (list_any (λ other. int_eq other t.number) earlier) t LabelTwice in
     let p : (offends_if (nat_le 256 (length earlier)) t TooMany ≡ []) × (rest ≡ []) = none_of (offends_if (nat_le 256 (length earlier)) t TooMany) rest h in
     let q : (offends_if (not (is_line_number t.number)) t Range ≡ [])
-        × (offends_if (list_any (λ other. int_eq other t.number) earlier) t LabelTwice ≡ []) = none_of (offends_if (not (is_line_number t.number)) t Range)
-        (offends_if (list_any (λ other. int_eq other t.number) earlier) t LabelTwice) p.1 in
+    × (offends_if (list_any (λ other. int_eq other t.number) earlier) t LabelTwice ≡ []) = none_of (offends_if (not (is_line_number t.number)) t Range)
+    (offends_if (list_any (λ other. int_eq other t.number) earlier) t LabelTwice) p.1 in
     record {
       few = below 256 (length earlier) (none_if (nat_le 256 (length earlier)) t TooMany p.0);
       small = not-false (is_line_number t.number) (none_if (not (is_line_number t.number)) t Range q.0);
@@ -104,21 +105,21 @@ module _ (s : Scope) (functions : List Function) (count : ℕ) (b : Bounded s co
       let t : Tree line = (n, (colon, i)) in
       let os : List Refused = each_offends (line_offences s) number (map number done ++ n.token.number ∷ []) ts in
       let p : (number_offences (map number done) n.token ++ instr_offences s i ≡ [])
-          × (os ≡ []) = none_of (number_offences (map number done) n.token ++ instr_offences s i) os h in
-      let q : (number_offences (map number done) n.token ≡ []) × (instr_offences s i ≡ []) = none_of (number_offences (map number done) n.token)
-          (instr_offences s i) p.0 in
+      × (os ≡ []) = none_of (number_offences (map number done) n.token ++ instr_offences s i) os h in
+      let q : (number_offences (map number done) n.token ≡ [])
+      × (instr_offences s i ≡ []) = none_of (number_offences (map number done) n.token) (instr_offences s i) p.0 in
       let f : NumberFine (map number done) n.token = number_fine (map number done) n.token q.0 in
       let all' : All Numbered (done ++ t ∷ []) = All-append Numbered done (t ∷ []) all (All-cons Numbered t [] f.small (All-nil Numbered)) in
-      let again : each_offends (line_offences s) number (map number (done ++ t ∷ [])) ts ≡ [] = ap (λ ns. each_offends (line_offences s) number ns ts)
-          (map-append number done (t ∷ [])) ∙ p.1 in
+      let again : each_offends (line_offences s) number (map number (done ++ t ∷ [])) ts
+      ≡ [] = ap (λ ns. each_offends (line_offences s) number ns ts) (map-append number done (t ∷ [])) ∙ p.1 in
       let rest : LinesFine s functions count (done ++ t ∷ []) ts = lines_fine (done ++ t ∷ []) ts all' again in
       let d : length (map number done) ≡ length done = length-map done number in
       let e : length (done ++ t ∷ []) ≡ length done + 1 = length-append done (t ∷ []) in
       let lt : length (map number done) < 256 = f.few in
       let m : map (line_of s) (done ++ t ∷ []) ≡ map (line_of s) done ++ line_of s t ∷ [] = map-append (line_of s) done (t ∷ []) in
       record {
-        few = λ (l : length done ≤ 256).
-            (let less : length (done ++ t ∷ []) ≤ 256 = omega arith in let more : length (done ++ t ∷ []) + length ts ≤ 256 = rest.few less in omega arith);
+        few = λ (l : length done ≤ 256). (let less : length (done ++ t ∷ []) ≤ 256 = omega arith in let more : length (done ++ t ∷ []) + length ts
+            ≤ 256 = rest.few less in omega arith);
         small = All-cons Small (line_of s t) (map (line_of s) ts) (natural_small n.token.number f.small) rest.small;
         new = (new_number s n.token.number done f.small all f.new, subst (λ (zs : List Line). AreNewBy (λ line. line.name) zs (map (line_of s) ts)) m rest.new);
         fine = All-cons Fine (line_of s t) (map (line_of s) ts) (instr_fine s functions count b known i q.1) rest.fine;
@@ -140,16 +141,16 @@ function_fine heads functions earlier (front, (left, (body, right))) known h =
     let os : List Lexeme = other_tokens front in
     let names : List Refused = names_offences 8 [] ps ++ names_offences 32 (texts_of ps) os in
     let entry : List Refused = offends_if (length (numbers_of body) == 0) right.token NoEntry in
-    let p : (head_offences earlier front ≡ []) × (lines_offences s body ++ entry ≡ []) = none_of (head_offences earlier front)
-        (lines_offences s body ++ entry) h in
+    let p : (head_offences earlier front ≡ [])
+    × (lines_offences s body ++ entry ≡ []) = none_of (head_offences earlier front) (lines_offences s body ++ entry) h in
     let q : (name_offences 64 earlier (function_name front) ≡ []) × (names ≡ []) = none_of (name_offences 64 earlier (function_name front)) names p.0 in
-    let r : (names_offences 8 [] ps ≡ []) × (names_offences 32 (texts_of ps) os ≡ []) = none_of (names_offences 8 [] ps)
-        (names_offences 32 (texts_of ps) os) q.1 in
+    let r : (names_offences 8 [] ps ≡ [])
+    × (names_offences 32 (texts_of ps) os ≡ []) = none_of (names_offences 8 [] ps) (names_offences 32 (texts_of ps) os) q.1 in
     let l : (lines_offences s body ≡ []) × (entry ≡ []) = none_of (lines_offences s body) entry p.1 in
     let counted : length (numbers_of body) ≡ length (map (line_of s) body) = length-map body number ∙ sym (length-map body (line_of s)) in
     let b : Bounded s (length (map (line_of s) body)) = subst (λ (n : ℕ). Bounded s n) counted (bounded heads front body) in
     let f : LinesFine s functions (length (map (line_of s) body)) [] body = lines_fine s functions (length (map (line_of s) body)) b known [] body
-        (All-nil Numbered) l.0 in
+    (All-nil Numbered) l.0 in
     let zero_few : 0 ≤ 256 = omega arith in
     let lines_few : 0 + length body ≤ 256 = f.few zero_few in
     let lines_count : length (map (line_of s) body) ≡ length body = length-map body (line_of s) in

@@ -19,16 +19,16 @@ use Rattle.cj_reader.proofs.Fine.{below}
 pub name_few : (limit : ℕ) (earlier : List (List ℕ)) (t : Lexeme) → name_offences limit earlier t ≡ [] → length earlier < limit
 name_few limit earlier t h =
     let q : (offends_if (is_long t || nat_le limit (length earlier)) t TooMany ≡ [])
-        × (offends_if (list_any (λ other. bytes_eq other t.text) earlier) t NameTwice ≡ []) = none_of
-        (offends_if (is_long t || nat_le limit (length earlier)) t TooMany) (offends_if (list_any (λ other. bytes_eq other t.text) earlier) t NameTwice) h in
+    × (offends_if (list_any (λ other. bytes_eq other t.text) earlier) t NameTwice ≡ []) = none_of
+    (offends_if (is_long t || nat_le limit (length earlier)) t TooMany) (offends_if (list_any (λ other. bytes_eq other t.text) earlier) t NameTwice) h in
     below limit (length earlier) (or_parts (is_long t) (nat_le limit (length earlier)) (none_if (is_long t || nat_le limit (length earlier)) t TooMany q.0)).1
 
-pub name_new : (limit : ℕ) (earlier : List (List ℕ)) (t : Lexeme) → name_offences limit earlier t ≡ [] →
-    list_any (λ other. bytes_eq other t.text) earlier ≡ false
+pub name_new : (limit : ℕ) (earlier : List (List ℕ)) (t : Lexeme) → name_offences limit earlier t ≡ [] → list_any (λ other. bytes_eq other t.text) earlier
+    ≡ false
 name_new limit earlier t h =
     let q : (offends_if (is_long t || nat_le limit (length earlier)) t TooMany ≡ [])
-        × (offends_if (list_any (λ other. bytes_eq other t.text) earlier) t NameTwice ≡ []) = none_of
-        (offends_if (is_long t || nat_le limit (length earlier)) t TooMany) (offends_if (list_any (λ other. bytes_eq other t.text) earlier) t NameTwice) h in
+    × (offends_if (list_any (λ other. bytes_eq other t.text) earlier) t NameTwice ≡ []) = none_of
+    (offends_if (is_long t || nat_le limit (length earlier)) t TooMany) (offends_if (list_any (λ other. bytes_eq other t.text) earlier) t NameTwice) h in
     none_if (list_any (λ other. bytes_eq other t.text) earlier) t NameTwice q.1
 
 pub names_few : (limit : ℕ) (earlier : List (List ℕ)) (toks : List Lexeme) → names_offences limit earlier toks ≡ [] → length earlier ≤ limit →
@@ -36,7 +36,7 @@ pub names_few : (limit : ℕ) (earlier : List (List ℕ)) (toks : List Lexeme) �
 names_few limit earlier [] h l = let n : length earlier ≤ limit = l in omega arith
 names_few limit earlier (t ∷ toks) h l =
     let p : (name_offences limit earlier t ≡ []) × (names_offences limit (earlier ++ t.text ∷ []) toks ≡ []) = none_of (name_offences limit earlier t)
-        (names_offences limit (earlier ++ t.text ∷ []) toks) h in
+    (names_offences limit (earlier ++ t.text ∷ []) toks) h in
     let f : length earlier < limit = name_few limit earlier t p.0 in
     let n : length (earlier ++ t.text ∷ []) ≡ length earlier + 1 = length-append earlier (t.text ∷ []) in
     let m : length (earlier ++ t.text ∷ []) ≤ limit = omega arith in
@@ -48,9 +48,11 @@ pub names_new : (limit : ℕ) (earlier : List (List ℕ)) (toks : List Lexeme) �
 names_new limit earlier [] h = tt
 names_new limit earlier (t ∷ toks) h =
     let p : (name_offences limit earlier t ≡ []) × (names_offences limit (earlier ++ t.text ∷ []) toks ≡ []) = none_of (name_offences limit earlier t)
-        (names_offences limit (earlier ++ t.text ∷ []) toks) h in
-    (none_passing (λ other. bytes_eq other t.text) (λ other. other ≡ t.text) (λ other. bytes_eq-Decides other t.text) earlier (name_new limit earlier t p.0),
-        names_new limit (earlier ++ t.text ∷ []) toks p.1)
+    (names_offences limit (earlier ++ t.text ∷ []) toks) h in (
+      none_passing (λ other. bytes_eq other t.text) (λ other. other ≡ t.text) (λ other. bytes_eq-Decides other t.text) earlier
+          (name_new limit earlier t p.0),
+      names_new limit (earlier ++ t.text ∷ []) toks p.1,
+    )
 
 pub new_and_new : {A B : Type 0} (key : A → B) (earlier xs ys : List A) → AreNewBy key earlier xs → AreNewBy key (earlier ++ xs) ys →
     AreNewBy key earlier (xs ++ ys)

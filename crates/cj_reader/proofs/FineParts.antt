@@ -14,17 +14,17 @@ use Rattle.cj_tokens.specs.Lexemes.{Lexeme, Is}
 use Rattle.cj_tokens.specs.declared.terminal.Terminal.TheVariants as terminal
 use Rattle.cj_tokens.specs.declared.refusal.Kind.TheVariants.{TooMany, Range, NoRegister, NoLabel, Arguments}
 use Rattle.cj_grammar.specs.Grammar.{Leaf, Tree, opt}
-use Rattle.cj_grammar.specs.Rules.{operand, binary, expr, target, operands, more_operands, nop_instr, op_instr, cond_instr, call_instr, return_instr,
-    print_instr, load_instr, store_instr, fail_instr, instr}
+use Rattle.cj_grammar.specs.Rules.{operand, binary, expr, target, operands, more_operands, nop_instr, op_instr, cond_instr, call_instr, return_instr}
+use Rattle.cj_grammar.specs.Rules.{print_instr, load_instr, store_instr, fail_instr, instr}
 use Rattle.cj_grammar.specs.Alternatives.{of_instr, of_binary}
 use Rattle.cj_grammar.specs.Reading.{offends_if, missing}
 use Rattle.cj_reader.specs.declared.scope.Callee.{Callee}
 use Rattle.cj_reader.specs.Scopes.{Scope, name_place}
-use Rattle.cj_reader.specs.Operands.{is_long, is_line_number, register_offences, register_of, label_offences, label_of, target_offences, target_of,
-    operand_offences, operand_of, binary_of, expr_offences, expr_of}
-use Rattle.cj_reader.specs.Instructions.{arguments_offences, arguments_of, argument_count, count_offences, callee_offences, callee_of, nop_offences, nop_of,
-    op_offences, op_of, cond_offences, cond_of, call_offences, call_of, return_offences, return_of, print_offences, print_of, load_offences, load_of,
-    store_offences, store_of, fail_of, instr_offences, instr_of}
+use Rattle.cj_reader.specs.Operands.{is_long, is_line_number, register_offences, register_of, label_offences, label_of, target_offences, target_of}
+use Rattle.cj_reader.specs.Operands.{operand_offences, operand_of, binary_of, expr_offences, expr_of}
+use Rattle.cj_reader.specs.Instructions.{arguments_offences, arguments_of, argument_count, count_offences, callee_offences, callee_of, nop_offences, nop_of}
+use Rattle.cj_reader.specs.Instructions.{op_offences, op_of, cond_offences, cond_of, call_offences, call_of, return_offences, return_of, print_offences}
+use Rattle.cj_reader.specs.Instructions.{print_of, load_offences, load_of, store_offences, store_of, fail_of, instr_offences, instr_of}
 use Rattle.cj_grammar.proofs.Unoffended.{none_of, none_if, none_missing}
 use Rattle.cj_reader.proofs.Fine.{equal, place_within}
 
@@ -39,14 +39,15 @@ Called s functions = (name : List ℕ) (callee : Callee) → s.function_at name 
 register_fine : (s : Scope) (t : Lexeme) → register_offences s t ≡ [] → (register_of s t).0 < length s.registers
 register_fine s t h =
     let p : (offends_if (is_long t) t TooMany ≡ []) × (missing (name_place s.registers t.text) t NoRegister ≡ []) = none_of (offends_if (is_long t) t TooMany)
-        (missing (name_place s.registers t.text) t NoRegister) h in
+    (missing (name_place s.registers t.text) t NoRegister) h in
     let f : (place : ℕ) × (name_place s.registers t.text ≡ Some place) = none_missing (name_place s.registers t.text) t NoRegister p.1 in
     rw f.1 (place_within (λ other. bytes_eq other t.text) s.registers f.0 f.1)
 
 label_fine : (s : Scope) (count : ℕ) → Bounded s count → (t : Lexeme) → label_offences s t ≡ [] → (label_of s t).0 < count
 label_fine s count b t h =
-    let p : (offends_if (not (is_line_number t.number)) t Range ≡ []) × (missing (s.line_at t.number) t NoLabel ≡ []) = none_of
-        (offends_if (not (is_line_number t.number)) t Range) (missing (s.line_at t.number) t NoLabel) h in
+    let p : (offends_if (not (is_line_number t.number)) t Range ≡ [])
+    × (missing (s.line_at t.number) t NoLabel ≡ []) = none_of (offends_if (not (is_line_number t.number)) t Range)
+    (missing (s.line_at t.number) t NoLabel) h in
     let f : (place : ℕ) × (s.line_at t.number ≡ Some place) = none_missing (s.line_at t.number) t NoLabel p.1 in
     rw f.1 (b t.number f.0 f.1)
 
@@ -87,8 +88,8 @@ more_fine : (s : Scope) (more : List Next) → flat_map (λ t. operand_offences 
     All (IsOperandWithin (length s.registers)) (map (λ t. operand_of s t.1) more)
 more_fine s [] h = All-nil (IsOperandWithin (length s.registers))
 more_fine s (t ∷ more) h =
-    let p : (operand_offences s t.1 ≡ []) × (flat_map (λ t. operand_offences s t.1) more ≡ []) = none_of (operand_offences s t.1)
-        (flat_map (λ t. operand_offences s t.1) more) h in
+    let p : (operand_offences s t.1 ≡ [])
+    × (flat_map (λ t. operand_offences s t.1) more ≡ []) = none_of (operand_offences s t.1) (flat_map (λ t. operand_offences s t.1) more) h in
     All-cons (IsOperandWithin (length s.registers)) (operand_of s t.1) (map (λ t. operand_of s t.1) more) (operand_fine s t.1 p.0) (more_fine s more p.1)
 
 arguments_fine : (s : Scope) (t : Tree (opt operands)) → arguments_offences s t ≡ [] → All (IsOperandWithin (length s.registers)) (arguments_of s t)
@@ -96,9 +97,9 @@ unfolding operands more_operands arguments_offences arguments_of
 arguments_fine s None h = All-nil (IsOperandWithin (length s.registers))
 arguments_fine s (Some (first, more)) h =
     let p : (operand_offences s first ≡ []) × (flat_map (λ (t : Next). operand_offences s t.1) more ≡ []) = none_of (operand_offences s first)
-        (flat_map (λ (t : Next). operand_offences s t.1) more) h in
+    (flat_map (λ (t : Next). operand_offences s t.1) more) h in
     All-cons (IsOperandWithin (length s.registers)) (operand_of s first) (map (λ (t : Next). operand_of s t.1) more) (operand_fine s first p.0)
-        (more_fine s more p.1)
+    (more_fine s more p.1)
 
 arguments_counted : (s : Scope) (t : Tree (opt operands)) → length (arguments_of s t) ≡ argument_count t
 unfolding operands more_operands arguments_of argument_count
@@ -117,7 +118,7 @@ callee_fine : (s : Scope) (functions : List Function) → Called s functions →
     Takes functions (callee_of s t) count
 callee_fine s functions known t count h =
     let p : (offends_if (is_long t) t TooMany ≡ []) × (count_offences t count (s.function_at t.text) ≡ []) = none_of (offends_if (is_long t) t TooMany)
-        (count_offences t count (s.function_at t.text)) h in
+    (count_offences t count (s.function_at t.text)) h in
     counted_fine functions t count (s.function_at t.text) (known t.text) p.1
 
 -- ---- instructions
@@ -134,7 +135,7 @@ module _ (s : Scope) (functions : List Function) (count : ℕ) (b : Bounded s co
   unfolding op_instr op_offences op_of
   op_fine (word, (dest, (equals, (value, next)))) h =
       let p : (register_offences s dest.token ≡ []) × (expr_offences s value ++ target_offences s next ≡ []) = none_of (register_offences s dest.token)
-          (expr_offences s value ++ target_offences s next) h in
+      (expr_offences s value ++ target_offences s next) h in
       let q : (expr_offences s value ≡ []) × (target_offences s next ≡ []) = none_of (expr_offences s value) (target_offences s next) p.1 in
       (register_fine s dest.token p.0, expr_fine s value q.0, target_fine s count b next q.1)
 
@@ -142,22 +143,24 @@ module _ (s : Scope) (functions : List Function) (count : ℕ) (b : Bounded s co
   unfolding cond_instr cond_offences cond_of
   cond_fine (word, (test, (then_to, (comma, else_to)))) h =
       let p : (operand_offences s test ≡ []) × (target_offences s then_to ++ label_offences s else_to.token ≡ []) = none_of (operand_offences s test)
-          (target_offences s then_to ++ label_offences s else_to.token) h in
-      let q : (target_offences s then_to ≡ []) × (label_offences s else_to.token ≡ []) = none_of (target_offences s then_to)
-          (label_offences s else_to.token) p.1 in
+      (target_offences s then_to ++ label_offences s else_to.token) h in
+      let q : (target_offences s then_to ≡ [])
+      × (label_offences s else_to.token ≡ []) = none_of (target_offences s then_to) (label_offences s else_to.token) p.1 in
       (operand_fine s test p.0, target_fine s count b then_to q.0, label_fine s count b else_to.token q.1)
 
   call_fine : (t : Tree call_instr) → call_offences s t ≡ [] → Fine (call_of s t)
   unfolding call_instr call_offences call_of
   call_fine (word, (dest, (equals, (callee, (left, (arguments, (right, next))))))) h =
       let n : ℕ = argument_count arguments in
-      let p : (register_offences s dest.token ≡ []) × (callee_offences s callee.token n ++ (arguments_offences s arguments ++ target_offences s next) ≡ []) =
-          none_of (register_offences s dest.token) (callee_offences s callee.token n ++ (arguments_offences s arguments ++ target_offences s next)) h in
-      let q : (callee_offences s callee.token n ≡ []) × (arguments_offences s arguments ++ target_offences s next ≡ []) = none_of
-          (callee_offences s callee.token n) (arguments_offences s arguments ++ target_offences s next) p.1 in
+      let p : (register_offences s dest.token ≡ [])
+      × (callee_offences s callee.token n ++ (arguments_offences s arguments ++ target_offences s next) ≡ []) = none_of (register_offences s dest.token)
+      (callee_offences s callee.token n ++ (arguments_offences s arguments ++ target_offences s next)) h in
+      let q : (callee_offences s callee.token n ≡ [])
+      × (arguments_offences s arguments ++ target_offences s next ≡ []) = none_of (callee_offences s callee.token n) (arguments_offences s arguments
+      ++ target_offences s next) p.1 in
       let r : (arguments_offences s arguments ≡ []) × (target_offences s next ≡ []) = none_of (arguments_offences s arguments) (target_offences s next) q.1 in
       let takes : Takes functions (callee_of s callee.token) (length (arguments_of s arguments)) = subst
-          (λ (m : ℕ). Takes functions (callee_of s callee.token) m) (sym (arguments_counted s arguments)) (callee_fine s functions known callee.token n q.0) in
+      (λ (m : ℕ). Takes functions (callee_of s callee.token) m) (sym (arguments_counted s arguments)) (callee_fine s functions known callee.token n q.0) in
       (register_fine s dest.token p.0, takes, arguments_fine s arguments r.0, target_fine s count b next r.1)
 
   return_fine : (t : Tree return_instr) → return_offences s t ≡ [] → Fine (return_of s t)
@@ -174,7 +177,7 @@ module _ (s : Scope) (functions : List Function) (count : ℕ) (b : Bounded s co
   unfolding load_instr load_offences load_of
   load_fine (word, (dest, (equals, (left, (address, (right, next)))))) h =
       let p : (register_offences s dest.token ≡ []) × (operand_offences s address ++ target_offences s next ≡ []) = none_of (register_offences s dest.token)
-          (operand_offences s address ++ target_offences s next) h in
+      (operand_offences s address ++ target_offences s next) h in
       let q : (operand_offences s address ≡ []) × (target_offences s next ≡ []) = none_of (operand_offences s address) (target_offences s next) p.1 in
       (register_fine s dest.token p.0, operand_fine s address q.0, target_fine s count b next q.1)
 
@@ -182,7 +185,7 @@ module _ (s : Scope) (functions : List Function) (count : ℕ) (b : Bounded s co
   unfolding store_instr store_offences store_of
   store_fine (word, (left, (address, (right, (equals, (value, next)))))) h =
       let p : (operand_offences s address ≡ []) × (operand_offences s value ++ target_offences s next ≡ []) = none_of (operand_offences s address)
-          (operand_offences s value ++ target_offences s next) h in
+      (operand_offences s value ++ target_offences s next) h in
       let q : (operand_offences s value ≡ []) × (target_offences s next ≡ []) = none_of (operand_offences s value) (target_offences s next) p.1 in
       (operand_fine s address p.0, operand_fine s value q.0, target_fine s count b next q.1)
 

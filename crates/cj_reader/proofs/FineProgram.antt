@@ -1,6 +1,6 @@
 -- Where the functions of a text have no offences, their program is well formed.
-use Rattle.std.proofs.Common.{◌≡◌, ◌≢◌, ℕ, suc, ◌+◌, ◌<◌, ◌≤◌, List, [], ◌∷◌, ◌++◌, length, true, false, cond, refl, ap, sym, ◌∙◌, arith, All, subst,
-    length-append, Some, Ok}
+use Rattle.std.proofs.Common.{◌≡◌, ◌≢◌, ℕ, suc, ◌+◌, ◌<◌, ◌≤◌, List, [], ◌∷◌, ◌++◌, length, true, false, cond, refl, ap, sym, ◌∙◌, arith, All, subst}
+use Rattle.std.proofs.Common.{length-append, Some, Ok}
 use Rattle.std.specs.Prelude.{map, slice_get}
 use Rattle.std.specs.List.{list_any}
 use Rattle.std.specs.Str.{bytes_eq}
@@ -53,8 +53,8 @@ found_at : (heads : List Head) (i : ℕ) (ts : List (Tree fun)) (name : List ℕ
 found_at heads i [] name callee h = cc
 found_at heads i (t ∷ ts) name callee h =
     elim (bytes_eq (top t).name name) as
-        (λ b. cond b (Some (record { function = record { 0 = i }; params = (top t).params })) (first_named (i + 1) (map top ts) name) ≡ Some callee →
-        FoundAt (map (function_of heads) (t ∷ ts)) i callee) [
+    (λ b. cond b (Some (record { function = record { 0 = i }; params = (top t).params })) (first_named (i + 1) (map top ts) name) ≡ Some callee →
+    FoundAt (map (function_of heads) (t ∷ ts)) i callee) [
       | true ↦ (λ e.
           let c : Callee = record { function = record { 0 = i }; params = (top t).params } in
           let same : c ≡ callee = cc in
@@ -94,9 +94,9 @@ new_name : (heads : List Head) (name : List ℕ) (done : List (Tree fun)) → li
 new_name heads name [] h = All-nil (λ (other : Function). other.name ≢ name)
 new_name heads name (d ∷ done) h =
     let p : (bytes_eq (key d) name ≡ false) × (list_any (λ other. bytes_eq other name) (map key done) ≡ false) = or_parts (bytes_eq (key d) name)
-        (list_any (λ other. bytes_eq other name) (map key done)) h in
-    let here : (function_of heads d).name ≢ name = λ e. let t : bytes_eq (key d) name ≡ true = (bytes_eq-Decides (key d) name).1
-        (sym (name_same heads d) ∙ e) in cc in
+    (list_any (λ other. bytes_eq other name) (map key done)) h in
+    let here : (function_of heads d).name ≢ name = λ e. let t : bytes_eq (key d) name
+    ≡ true = (bytes_eq-Decides (key d) name).1 (sym (name_same heads d) ∙ e) in cc in
     All-cons (λ (other : Function). other.name ≢ name) (function_of heads d) (map (function_of heads) done) here (new_name heads name done p.1)
 
 record FunctionsFine (heads : List Head) (functions : List Function) (done ts : List (Tree fun)) : Type 0 where
@@ -116,20 +116,20 @@ functions_fine heads functions known done (t ∷ ts) h =
     let os : List Refused = each_offends (function_offences heads) key (map key done ++ key t ∷ []) ts in
     let p : (function_offences heads (map key done) t ≡ []) × (os ≡ []) = none_of (function_offences heads (map key done) t) os h in
     let n : name_offences 64 (map key done) (function_name (function_head t)) ≡ [] = name_of_head heads (map key done) t p.0 in
-    let again : each_offends (function_offences heads) key (map key (done ++ t ∷ [])) ts ≡ [] = ap (λ ns. each_offends (function_offences heads) key ns ts)
-        (map-append key done (t ∷ [])) ∙ p.1 in
+    let again : each_offends (function_offences heads) key (map key (done ++ t ∷ [])) ts
+    ≡ [] = ap (λ ns. each_offends (function_offences heads) key ns ts) (map-append key done (t ∷ [])) ∙ p.1 in
     let rest : FunctionsFine heads functions (done ++ t ∷ []) ts = functions_fine heads functions known (done ++ t ∷ []) ts again in
     let d : length (map key done) ≡ length done = length-map done key in
     let e : length (done ++ t ∷ []) ≡ length done + 1 = length-append done (t ∷ []) in
     let lt : length (map key done) < 64 = name_few 64 (map key done) (function_name (function_head t)) n in
     let m : map (function_of heads) (done ++ t ∷ []) ≡ map (function_of heads) done ++ function_of heads t
-        ∷ [] = map-append (function_of heads) done (t ∷ []) in
+    ∷ [] = map-append (function_of heads) done (t ∷ []) in
     let name : All (λ other. other.name ≢ (function_of heads t).name) (map (function_of heads) done) =
     subst (λ (x : List ℕ). All (λ other. other.name ≢ x) (map (function_of heads) done)) (sym (name_same heads t))
-        (new_name heads (key t) done (name_new 64 (map key done) (function_name (function_head t)) n)) in
+    (new_name heads (key t) done (name_new 64 (map key done) (function_name (function_head t)) n)) in
     record {
-      few = λ (l : length done ≤ 64).
-          (let less : length (done ++ t ∷ []) ≤ 64 = omega arith in let more : length (done ++ t ∷ []) + length ts ≤ 64 = rest.few less in omega arith);
+      few = λ (l : length done ≤ 64). (let less : length (done ++ t ∷ []) ≤ 64 = omega arith in let more : length (done ++ t ∷ []) + length ts
+          ≤ 64 = rest.few less in omega arith);
       new = (name, subst (λ (zs : List Function). AreNewBy (λ f. f.name) zs (map (function_of heads) ts)) m rest.new);
       fine = All-cons (IsFunctionFine functions) (function_of heads t) (map (function_of heads) ts) (function_fine heads functions (map key done) t known p.0)
           rest.fine;
@@ -171,5 +171,5 @@ pub read_fine : (ts : List Lexeme) (program : Program) (us : List Lexeme) → Ha
 read_fine ts program us has h =
     let tree : Tree funs = has.1.tree in
     let so : (program_offences tree ≡ []) × (program_of tree ≡ program) = read_so (program_offences tree) (program_of tree) program has.0 us
-        (sym (program_is ts has.0 has.1) ∙ h) in
+    (sym (program_is ts has.0 has.1) ∙ h) in
     subst (λ (p : Program). IsWellFormed p) so.1 (program_fine tree so.0)

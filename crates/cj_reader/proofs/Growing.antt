@@ -5,9 +5,8 @@ use Rattle.cj_grammar.specs.OneAhead.{◌>>=◌}
 use Rattle.cj_grammar.specs.Readers.{Read, each_at}
 use Rattle.cj_reader.specs.Reading.{one_more_at}
 
-taken : {X : Type 0} (one : List X → List Lexeme → Read X) (n : ℕ) (r : Read X) (earlier : List X) →
-    (r >>= λ x. each_at one n (earlier ++ x.0 ∷ []) x.1) ≡ (let more : X × List Lexeme →
-    Read (List X) = λ x. Ok (earlier ++ x.0 ∷ [], x.1) in r >>= more) >>= λ y. each_at one n y.0 y.1
+taken : {X : Type 0} (one : List X → List Lexeme → Read X) (n : ℕ) (r : Read X) (earlier : List X) → (r >>= λ x. each_at one n (earlier ++ x.0 ∷ []) x.1)
+    ≡ (let more : X × List Lexeme → Read (List X) = λ x. Ok (earlier ++ x.0 ∷ [], x.1) in r >>= more) >>= λ y. each_at one n y.0 y.1
 taken one n (Ok x) earlier = refl
 taken one n (Err e) earlier = refl
 

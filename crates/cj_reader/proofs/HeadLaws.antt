@@ -6,8 +6,8 @@ use Rattle.cj_tokens.specs.Passing.{front, behind}
 use Rattle.cj_tokens.specs.declared.terminal.Terminal.TheVariants as terminal
 use Rattle.cj_grammar.specs.Grammar.{Rule, Leaf, Tree, leaves, opt}
 use Rattle.cj_grammar.specs.Contents.{lacks}
-use Rattle.cj_grammar.specs.Rules.{one, ◌▸◌, operand, more_operands, operands, more_names, names, binary, expr, target, nop_instr, op_instr, cond_instr,
-    call_instr, return_instr, print_instr, load_instr, store_instr, fail_instr, instr, line, lines, head, fun, more_funs, funs}
+use Rattle.cj_grammar.specs.Rules.{one, ◌▸◌, operand, more_operands, operands, more_names, names, binary, expr, target, nop_instr, op_instr, cond_instr}
+use Rattle.cj_grammar.specs.Rules.{call_instr, return_instr, print_instr, load_instr, store_instr, fail_instr, instr, line, lines, head, fun, more_funs, funs}
 use Rattle.cj_grammar.proofs.ContentsLaws.{only_its_own}
 use Rattle.cj_grammar.proofs.Signs.{and_true, not_true}
 use Rattle.cj_reader.specs.Scopes.{Head}
@@ -22,14 +22,14 @@ heads_pass : (xs ts : List Lexeme) → lacks (Is terminal.Fun) xs ≡ true → l
 unfolding heads_at
 heads_pass [] ts f b e = refl
 heads_pass (x ∷ xs) ts f b e =
-    let p : (not (is_terminal terminal.Fun x) ≡ true) × (lacks (Is terminal.Fun) xs ≡ true) = and_true (not (is_terminal terminal.Fun x))
-        (lacks (Is terminal.Fun) xs) f in
+    let p : (not (is_terminal terminal.Fun x) ≡ true)
+    × (lacks (Is terminal.Fun) xs ≡ true) = and_true (not (is_terminal terminal.Fun x)) (lacks (Is terminal.Fun) xs) f in
     let q : (not (is_terminal terminal.CloseBrace x) ≡ true) × (lacks (Is terminal.CloseBrace) xs ≡ true) = and_true (not (is_terminal terminal.CloseBrace x))
-        (lacks (Is terminal.CloseBrace) xs) b in
-    let r : (not (is_terminal terminal.End x) ≡ true) × (lacks (Is terminal.End) xs ≡ true) = and_true (not (is_terminal terminal.End x))
-        (lacks (Is terminal.End) xs) e in
+    (lacks (Is terminal.CloseBrace) xs) b in
+    let r : (not (is_terminal terminal.End x) ≡ true)
+    × (lacks (Is terminal.End) xs ≡ true) = and_true (not (is_terminal terminal.End x)) (lacks (Is terminal.End) xs) e in
     rw (not_true (is_terminal terminal.End x) r.0, not_true (is_terminal terminal.CloseBrace x) q.0, not_true (is_terminal terminal.Fun x) p.0)
-        (heads_pass xs ts p.1 q.1 r.1)
+    (heads_pass xs ts p.1 q.1 r.1)
 
 -- what stands between `fun` and the `}`
 abbrev Declaration : Rule
@@ -42,8 +42,12 @@ inside_lacks : (t : Tree Inside) → (lacks (Is terminal.Fun) (leaves Inside t) 
     × (lacks (Is terminal.End) (leaves Inside t) ≡ true)
 unfolding operand more_operands operands more_names names binary expr target nop_instr op_instr cond_instr call_instr return_instr print_instr load_instr
     store_instr fail_instr instr line lines
-inside_lacks t = (only_its_own Inside (Is terminal.Fun) t refl, only_its_own Inside (Is terminal.CloseBrace) t refl,
-    only_its_own Inside (Is terminal.End) t refl)
+inside_lacks t = (
+  only_its_own Inside (Is terminal.Fun) t refl,
+  only_its_own Inside (Is terminal.CloseBrace) t refl,
+  only_its_own Inside
+      (Is terminal.End) t refl,
+)
 
 abbrev inside_of : Tree fun → Tree Inside
 unfolding fun head
@@ -72,12 +76,12 @@ head_is ((word, (name, (open_paren, (params, (others, close))))), (left, (body, 
     let os : List Lexeme = leaves Others others in
     let vs : List Lexeme = (left.token ∷ leaves lines body) ++ us in
     let regroup : ((leaves (opt names) params ++ (os ++ close.token ∷ [])) ++ (left.token ∷ leaves lines body)) ++ us ≡ leaves (opt names) params
-        ++ (os ++ close.token ∷ vs) =
+    ++ (os ++ close.token ∷ vs) =
     append_assoc (leaves (opt names) params ++ (os ++ close.token ∷ [])) (left.token ∷ leaves lines body) us
-        ∙ (append_assoc (leaves (opt names) params) (os ++ close.token ∷ []) vs
-        ∙ ap (λ z. leaves (opt names) params ++ z) (append_assoc os (close.token ∷ []) vs)) in
-    let n : count_at (leaves (opt names) params ++ (os ++ close.token ∷ vs)) ≡ length (name_tokens params) = count_names params (os ++ close.token ∷ vs)
-        (others_count others close vs) in
+    ∙ (append_assoc (leaves (opt names) params) (os ++ close.token ∷ []) vs
+    ∙ ap (λ z. leaves (opt names) params ++ z) (append_assoc os (close.token ∷ []) vs)) in
+    let n : count_at (leaves (opt names) params ++ (os ++ close.token ∷ vs))
+    ≡ length (name_tokens params) = count_names params (os ++ close.token ∷ vs) (others_count others close vs) in
     let make : ℕ → Head = λ n. record { name = name.token.text; params = n } in
     ap make (ap count_at regroup ∙ n)
 
@@ -91,11 +95,11 @@ first_head : (word : Leaf (Is terminal.Fun)) (ts : List Lexeme) → heads_at (wo
 unfolding heads_at
 first_head word ts = rw (leaf_number word) refl
 
-one_head : (t : Tree fun) (us : List Lexeme) (b : Bool) → is_terminal terminal.Fun (front us) ≡ b →
-    heads_at (leaves fun t ++ us) ≡ head_of (function_head t) ∷ cond b (heads_at us) []
+one_head : (t : Tree fun) (us : List Lexeme) (b : Bool) → is_terminal terminal.Fun (front us) ≡ b → heads_at (leaves fun t ++ us) ≡ head_of (function_head t)
+    ∷ cond b (heads_at us) []
 one_head t us b h =
     let l : (lacks (Is terminal.Fun) (leaves Inside (inside_of t)) ≡ true) × (lacks (Is terminal.CloseBrace) (leaves Inside (inside_of t)) ≡ true)
-        × (lacks (Is terminal.End) (leaves Inside (inside_of t)) ≡ true) = inside_lacks (inside_of t) in
+    × (lacks (Is terminal.End) (leaves Inside (inside_of t)) ≡ true) = inside_lacks (inside_of t) in
     let ws : List Lexeme = (end_of t).token ∷ us in
     let p : heads_at (leaves Inside (inside_of t) ++ ws) ≡ heads_at ws = heads_pass (leaves Inside (inside_of t)) ws l.0 l.1 l.2 in
     ap heads_at (spelled_so t us) ∙ (first_head (word_of t) (leaves Inside (inside_of t) ++ ws) ∙ rw (head_is t ws, p, behind_close t us b h) refl)

@@ -34,8 +34,8 @@ number_decides : (s : Scope) (earlier : List ℤ) (t : Lexeme) →
 unfolding line_number_at
 number_decides s earlier t h =
     rw h
-    (refused_decides (nat_le 256 (length earlier)) t TooMany
-        (offends_if (not (is_line_number t.number)) t Range ++ offends_if (list_any (λ other. int_eq other t.number) earlier) t LabelTwice) (natural t.number) _
+    (refused_decides (nat_le 256 (length earlier)) t TooMany (offends_if (not (is_line_number t.number)) t Range
+    ++ offends_if (list_any (λ other. int_eq other t.number) earlier) t LabelTwice) (natural t.number) _
     (refused_decides (not (is_line_number t.number)) t Range (offends_if (list_any (λ other. int_eq other t.number) earlier) t LabelTwice) (natural t.number) _
     (refused_last (list_any (λ other. int_eq other t.number) earlier) t LabelTwice (natural t.number))))
 
@@ -50,8 +50,8 @@ line_reads s earlier numbers (n, (colon, i)) us l h =
 
 -- the line among all lines of its function
 line_among : (s : Scope) (all done : List (Tree line)) (t : Tree line) (more : List (Tree line)) (us : List Lexeme) →
-    s.line_at ≡ number_place (map number all) → all ≡ done ++ t ∷ more →
-    line_at s (map (line_of s) done) (leaves line t ++ us) ≡ reads (line_offences s (map number done) t) (line_of s t) us
+    s.line_at ≡ number_place (map number all) → all ≡ done ++ t ∷ more → line_at s (map (line_of s) done) (leaves line t ++ us)
+    ≡ reads (line_offences s (map number done) t) (line_of s t) us
 line_among s all done t more us e h =
     let numbers : map number all ≡ map number done ++ (number t ∷ map number more) = ap (map number) h ∙ map-append number done (t ∷ more) in
     let l : length (map (line_of s) done) ≡ length (map number done) = length-map done (line_of s) ∙ sym (length-map done number) in
@@ -61,17 +61,17 @@ line_among s all done t more us e h =
     (ap (is_before (length (map number done))) place ∙ earlier_place (λ other. int_eq other (number t)) (map number done) (number t ∷ map number more))
 
 pub body_reads : (s : Scope) (t : Tree lines) (close : Leaf (Is terminal.CloseBrace)) (us : List Lexeme) → s.line_at ≡ number_place (numbers_of t) →
-    body_at s (length (numbers_of t)) (leaves lines t ++ close.token ∷ us) ≡ reads
-    (lines_offences s t ++ offends_if (length (numbers_of t) == 0) close.token NoEntry) (lines_of s t) us
+    body_at s (length (numbers_of t)) (leaves lines t ++ close.token ∷ us)
+    ≡ reads (lines_offences s t ++ offends_if (length (numbers_of t) == 0) close.token NoEntry) (lines_of s t) us
 unfolding lines numbers_of lines_offences lines_of body_at front behind
 body_reads s t close us e =
     let n : length (map number t) ≡ length t = length-map t number in
     let m : length (map (line_of s) t) ≡ length t = length-map t (line_of s) in
-    let each : each_at (line_at s) (length t) [] (flat_map (leaves line) t ++ close.token ∷ us) ≡ reads (each_offends (line_offences s) number [] t)
-        (map (line_of s) t) (close.token ∷ us) =
+    let each : each_at (line_at s) (length t) [] (flat_map (leaves line) t ++ close.token ∷ us)
+    ≡ reads (each_offends (line_offences s) number [] t) (map (line_of s) t) (close.token ∷ us) =
     each_among (line_at s) (leaves line) (line_offences s) number (line_of s) t (λ done x more us h. line_among s t done x more us e h) (close.token ∷ us) in
     rw (n, each) (reads_then (each_offends (line_offences s) number [] t) (offends_if (length t == 0) close.token NoEntry) (map (line_of s) t)
-        (map (line_of s) t) (close.token ∷ us) us _ (rw m (ended (length t == 0))))
+    (map (line_of s) t) (close.token ∷ us) us _ (rw m (ended (length t == 0))))
   where
     ended : (b : Bool) → (refuse_if b close.token NoEntry >>= λ u. Ok (map (line_of s) t, us)) ≡ reads (offends_if b close.token NoEntry) (map (line_of s) t) us
     ended true = refl

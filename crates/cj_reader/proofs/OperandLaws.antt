@@ -19,8 +19,8 @@ use Rattle.cj_grammar.specs.Readers.{reads}
 use Rattle.cj_grammar.proofs.ReadsLaws.{reads_then, reads_last}
 use Rattle.cj_reader.specs.declared.operators.Operator.TheVariants as operator
 use Rattle.cj_reader.specs.Scopes.{Scope, name_place}
-use Rattle.cj_reader.specs.Operands.{is_long, is_line_number, register_offences, register_of, label_offences, label_of, target_offences, target_of,
-    operand_offences, operand_of, binary_of, expr_offences, expr_of}
+use Rattle.cj_reader.specs.Operands.{is_long, is_line_number, register_offences, register_of, label_offences, label_of, target_offences, target_of}
+use Rattle.cj_reader.specs.Operands.{operand_offences, operand_of, binary_of, expr_offences, expr_of}
 use Rattle.cj_reader.specs.Reading.{register_at, label_at, target_at, operand_at, operator_of, rest_at, expr_at}
 use Rattle.cj_reader.proofs.Decided.{decides, decided_last, refused_decides, found_decides}
 
@@ -32,13 +32,13 @@ pub register_decides : (s : Scope) (t : Lexeme) → register_at s t ≡ decides 
 unfolding register_at
 register_decides s t =
     refused_decides (is_long t) t TooMany (missing (name_place s.registers t.text) t NoRegister) (register_of s t) _
-        (found_decides (name_place s.registers t.text) 0 t NoRegister (λ place. let r : Reg = record { 0 = place } in r))
+    (found_decides (name_place s.registers t.text) 0 t NoRegister (λ place. let r : Reg = record { 0 = place } in r))
 
 pub label_decides : (s : Scope) (t : Lexeme) → label_at s t ≡ decides (label_offences s t) (label_of s t)
 unfolding label_at
 label_decides s t =
     refused_decides (not (is_line_number t.number)) t Range (missing (s.line_at t.number) t NoLabel) (label_of s t) _
-        (found_decides (s.line_at t.number) 0 t NoLabel (λ place. let l : Label = record { 0 = place } in l))
+    (found_decides (s.line_at t.number) 0 t NoLabel (λ place. let l : Label = record { 0 = place } in l))
 
 pub target_reads : (s : Scope) (t : Tree target) (ts : List Lexeme) → target_at s (leaves target t ++ ts) ≡ reads (target_offences s t) (target_of s t) ts
 unfolding target target_at target_offences target_of front behind
@@ -52,14 +52,14 @@ operand_reads s (inl name) ts =
 operand_reads s (inr number) ts = rw (leaf_number number) refl
 
 -- an operand begins with a name or a number
-pub operand_number : (t : Tree operand) (ts : List Lexeme) →
-    (number_of (front (leaves operand t ++ ts)).terminal ≡ 3) ⊎ (number_of (front (leaves operand t ++ ts)).terminal ≡ 4)
+pub operand_number : (t : Tree operand) (ts : List Lexeme) → (number_of (front (leaves operand t ++ ts)).terminal ≡ 3)
+    ⊎ (number_of (front (leaves operand t ++ ts)).terminal ≡ 4)
 unfolding operand front
 operand_number (inl name) ts = inl (leaf_number name)
 operand_number (inr number) ts = inr (leaf_number number)
 
-no_word : (t : Tree operand) (ts : List Lexeme) →
-    (is_terminal terminal.Neg (front (leaves operand t ++ ts)) ≡ false) × (is_terminal terminal.Eqz (front (leaves operand t ++ ts)) ≡ false)
+no_word : (t : Tree operand) (ts : List Lexeme) → (is_terminal terminal.Neg (front (leaves operand t ++ ts)) ≡ false)
+    × (is_terminal terminal.Eqz (front (leaves operand t ++ ts)) ≡ false)
 no_word t ts = elim (operand_number t ts) [ inl e ↦ rw e (refl, refl) | inr e ↦ rw e (refl, refl) ]
 
 -- which operator a mark is
@@ -111,8 +111,8 @@ target_ends (arrow, number) ts = no_operator arrow.token.terminal arrow.is
 
 -- behind a first operand stands a mark with an operand, or the arrow of the target
 mark_reads : (s : Scope) (left : Operand) (mark : Tree binary) (ts : List Lexeme) →
-    rest_at s left (leaves binary mark ++ ts) (operator_of (front (leaves binary mark ++ ts)).terminal) ≡
-    (operand_at s ts >>= λ right. Ok (binary_of mark left right.0, right.1))
+    rest_at s left (leaves binary mark ++ ts) (operator_of (front (leaves binary mark ++ ts)).terminal)
+    ≡ (operand_at s ts >>= λ right. Ok (binary_of mark left right.0, right.1))
 unfolding binary of_binary binary_of front behind
 mark_reads s left (inl m) ts = rw (is_plus m.token.terminal m.is) refl
 mark_reads s left (inr (inl m)) ts = rw (is_minus m.token.terminal m.is) refl
@@ -122,8 +122,8 @@ mark_reads s left (inr (inr (inr (inr (inl m))))) ts = rw (is_percent m.token.te
 mark_reads s left (inr (inr (inr (inr (inr (inl m)))))) ts = rw (is_equals m.token.terminal m.is) refl
 mark_reads s left (inr (inr (inr (inr (inr (inr m)))))) ts = rw (is_less m.token.terminal m.is) refl
 
-pub expr_reads : (s : Scope) (t : Tree expr) (next : Tree target) (ts : List Lexeme) →
-    expr_at s (leaves expr t ++ (leaves target next ++ ts)) ≡ reads (expr_offences s t) (expr_of s t) (leaves target next ++ ts)
+pub expr_reads : (s : Scope) (t : Tree expr) (next : Tree target) (ts : List Lexeme) → expr_at s (leaves expr t ++ (leaves target next ++ ts))
+    ≡ reads (expr_offences s t) (expr_of s t) (leaves target next ++ ts)
 unfolding expr expr_at expr_offences expr_of front behind
 expr_reads s (inl (neg, value)) next ts =
     let us : List Lexeme = leaves target next ++ ts in
@@ -135,7 +135,7 @@ expr_reads s (inr (inr (value, None))) next ts =
     let us : List Lexeme = leaves target next ++ ts in
     let regroup : (leaves operand value ++ []) ++ us ≡ leaves operand value ++ us = append_assoc (leaves operand value) [] us in
     let n : (is_terminal terminal.Neg (front (leaves operand value ++ us)) ≡ false)
-        × (is_terminal terminal.Eqz (front (leaves operand value ++ us)) ≡ false) = no_word value us in
+    × (is_terminal terminal.Eqz (front (leaves operand value ++ us)) ≡ false) = no_word value us in
     let arrow : operator_of (front us).terminal ≡ None = target_ends next ts in
     rw (regroup, n.0, n.1, operand_reads s value us) (reads_last (operand_offences s value) (operand_of s value) _ us us _ (rw arrow refl))
 expr_reads s (inr (inr (left, Some (mark, right)))) next ts =
@@ -145,7 +145,7 @@ expr_reads s (inr (inr (left, Some (mark, right)))) next ts =
     let regroup : (leaves operand left ++ (leaves binary mark ++ leaves operand right)) ++ us ≡ leaves operand left ++ vs =
     append_assoc (leaves operand left) (leaves binary mark ++ leaves operand right) us ∙ ap (λ z. leaves operand left ++ z) inner in
     let n : (is_terminal terminal.Neg (front (leaves operand left ++ vs)) ≡ false)
-        × (is_terminal terminal.Eqz (front (leaves operand left ++ vs)) ≡ false) = no_word left vs in
+    × (is_terminal terminal.Eqz (front (leaves operand left ++ vs)) ≡ false) = no_word left vs in
     rw (regroup, n.0, n.1, operand_reads s left vs)
     (reads_then (operand_offences s left) (operand_offences s right) (operand_of s left) _ vs us _
     (rw (mark_reads s (operand_of s left) mark (leaves operand right ++ us), operand_reads s right us)

@@ -7,8 +7,8 @@ use Rattle.cj_tokens.specs.Passing.{front}
 use Rattle.cj_tokens.specs.declared.terminal.Terminal.TheVariants as terminal
 use Rattle.cj_grammar.specs.Grammar.{Rule, Leaf, Tree, leaves, opt, seq}
 use Rattle.cj_grammar.specs.Contents.{lacks}
-use Rattle.cj_grammar.specs.Rules.{one, operand, more_operands, operands, more_names, names, binary, expr, target, nop_instr, op_instr, cond_instr, call_instr,
-    return_instr, print_instr, load_instr, store_instr, fail_instr, instr, line, lines}
+use Rattle.cj_grammar.specs.Rules.{one, operand, more_operands, operands, more_names, names, binary, expr, target, nop_instr, op_instr, cond_instr, call_instr}
+use Rattle.cj_grammar.specs.Rules.{return_instr, print_instr, load_instr, store_instr, fail_instr, instr, line, lines}
 use Rattle.cj_grammar.proofs.ContentsLaws.{only_its_own}
 use Rattle.cj_grammar.proofs.Signs.{and_true, not_true}
 use Rattle.cj_reader.specs.Functions.{name_tokens, line_number, numbers_of}
@@ -62,11 +62,11 @@ unfolding numbers_at
 numbers_pass [] ts b e c k = refl
 numbers_pass (x ∷ xs) ts b e c k =
     let p : (not (is_terminal terminal.CloseBrace x) ≡ true) × (lacks (Is terminal.CloseBrace) xs ≡ true) = and_true (not (is_terminal terminal.CloseBrace x))
-        (lacks (Is terminal.CloseBrace) xs) b in
-    let q : (not (is_terminal terminal.End x) ≡ true) × (lacks (Is terminal.End) xs ≡ true) = and_true (not (is_terminal terminal.End x))
-        (lacks (Is terminal.End) xs) e in
-    let r : (not (is_terminal terminal.Colon x) ≡ true) × (lacks (Is terminal.Colon) xs ≡ true) = and_true (not (is_terminal terminal.Colon x))
-        (lacks (Is terminal.Colon) xs) c in
+    (lacks (Is terminal.CloseBrace) xs) b in
+    let q : (not (is_terminal terminal.End x) ≡ true)
+    × (lacks (Is terminal.End) xs ≡ true) = and_true (not (is_terminal terminal.End x)) (lacks (Is terminal.End) xs) e in
+    let r : (not (is_terminal terminal.Colon x) ≡ true)
+    × (lacks (Is terminal.Colon) xs ≡ true) = and_true (not (is_terminal terminal.Colon x)) (lacks (Is terminal.Colon) xs) c in
     rw (not_true (is_terminal terminal.CloseBrace x) p.0, not_true (is_terminal terminal.End x) q.0, next_lacks xs ts r.1 k) (numbers_pass xs ts p.1 q.1 r.1 k)
 
 instr_lacks : (i : Tree instr) → (lacks (Is terminal.CloseBrace) (leaves instr i) ≡ true) × (lacks (Is terminal.End) (leaves instr i) ≡ true)
@@ -81,16 +81,16 @@ unfolding line front
 no_colon [] close ts = rw (leaf_number close) refl
 no_colon ((number, rest) ∷ more) close ts = rw (leaf_number number) refl
 
-numbers_go : (t : List (Tree line)) (close : Leaf (Is terminal.CloseBrace)) (ts : List Lexeme) →
-    numbers_at (flat_map (leaves line) t ++ close.token ∷ ts) ≡ map (λ t. (line_number t).number) t
+numbers_go : (t : List (Tree line)) (close : Leaf (Is terminal.CloseBrace)) (ts : List Lexeme) → numbers_at (flat_map (leaves line) t ++ close.token ∷ ts)
+    ≡ map (λ t. (line_number t).number) t
 unfolding line line_number numbers_at front
 numbers_go [] close ts = rw (leaf_number close) refl
 numbers_go ((number, (colon, i)) ∷ more) close ts =
     let us : List Lexeme = flat_map (leaves line) more ++ close.token ∷ ts in
     let regroup : (leaves instr i ++ flat_map (leaves line) more) ++ close.token ∷ ts ≡ leaves instr i
-        ++ us = append_assoc (leaves instr i) (flat_map (leaves line) more) (close.token ∷ ts) in
+    ++ us = append_assoc (leaves instr i) (flat_map (leaves line) more) (close.token ∷ ts) in
     let l : (lacks (Is terminal.CloseBrace) (leaves instr i) ≡ true) × (lacks (Is terminal.End) (leaves instr i) ≡ true)
-        × (lacks (Is terminal.Colon) (leaves instr i) ≡ true) = instr_lacks i in
+    × (lacks (Is terminal.Colon) (leaves instr i) ≡ true) = instr_lacks i in
     let o : is_terminal terminal.Colon (front us) ≡ false = no_colon more close ts in
     let n : is_terminal terminal.Colon (front (leaves instr i ++ us)) ≡ false = next_lacks (leaves instr i) us l.2 o in
     let p : numbers_at (leaves instr i ++ us) ≡ numbers_at us = numbers_pass (leaves instr i) us l.0 l.1 l.2 o in

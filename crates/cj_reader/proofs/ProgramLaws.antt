@@ -18,8 +18,8 @@ use Rattle.cj_grammar.proofs.ReadsLaws.{reads_then, reads_last}
 use Rattle.cj_reader.specs.Scopes.{Head, first_named}
 use Rattle.cj_reader.specs.declared.declarations.Declared.{Declared}
 use Rattle.cj_reader.specs.Operands.{is_long}
-use Rattle.cj_reader.specs.Functions.{name_offences, name_tokens, names_offences, texts_of, other_names, function_name, param_tokens, other_tokens, head_of,
-    registers_of, numbers_of, lines_offences, lines_of, function_head, function_scope, function_offences, function_of}
+use Rattle.cj_reader.specs.Functions.{name_offences, name_tokens, names_offences, texts_of, other_names, function_name, param_tokens, other_tokens, head_of}
+use Rattle.cj_reader.specs.Functions.{registers_of, numbers_of, lines_offences, lines_of, function_head, function_scope, function_offences, function_of}
 use Rattle.cj_reader.specs.Meaning.{all_functions, heads_of, program_offences, program_of}
 use Rattle.cj_reader.specs.Reading.{Known, is_earlier, word_at, function_name_at, code_at, function_at, functions_at, program_at}
 use Rattle.cj_reader.proofs.Decided.{decides, decided_then, refused_decides, refused_last}
@@ -40,8 +40,8 @@ function_name_decides known earlier t is h =
     (refused_last (list_any (λ other. bytes_eq other t.text) earlier) t NameTwice t.text))
 
 code_reads : (heads : List Head) (front : Tree head) (t : Tree lines) (close : Leaf (Is terminal.CloseBrace)) (us : List Lexeme) →
-    code_at (first_named 0 heads) (registers_of front) (leaves lines t ++ close.token ∷ us) ≡ reads
-    (lines_offences (function_scope heads front t) t ++ offends_if (length (numbers_of t) == 0) close.token NoEntry)
+    code_at (first_named 0 heads) (registers_of front) (leaves lines t ++ close.token ∷ us)
+    ≡ reads (lines_offences (function_scope heads front t) t ++ offends_if (length (numbers_of t) == 0) close.token NoEntry)
     (lines_of (function_scope heads front t) t) us
 code_reads heads front t close us = rw (numbers_are t close us) (body_reads (function_scope heads front t) t close us refl)
 
@@ -71,7 +71,7 @@ unfolding fun head function_head function_name param_tokens other_tokens functio
 function_reads heads earlier keys ((word, (name, (left, (params, (others, right))))), (open_brace, (body, close))) us l h =
     let front : Tree head = (word, (name, (left, (params, (others, right))))) in
     let regroup : ((leaves (opt names) params ++ (leaves Others others ++ right.token ∷ [])) ++ (open_brace.token ∷ (leaves lines body ++ close.token ∷ [])))
-        ++ us ≡ leaves (opt names) params ++ (leaves Others others ++ right.token ∷ open_brace.token ∷ (leaves lines body ++ close.token ∷ us)) =
+    ++ us ≡ leaves (opt names) params ++ (leaves Others others ++ right.token ∷ open_brace.token ∷ (leaves lines body ++ close.token ∷ us)) =
     spelled_out (leaves (opt names) params) (leaves Others others) (leaves lines body) us right.token open_brace.token close.token in
     let vs : List Lexeme = open_brace.token ∷ (leaves lines body ++ close.token ∷ us) in
     let ns : List Refused = names_offences 8 [] (name_tokens params) ++ names_offences 32 (texts_of (name_tokens params)) (other_names others) in
@@ -84,9 +84,8 @@ function_reads heads earlier keys ((word, (name, (left, (params, (others, right)
     )
 
 function_among : (all done : List (Tree fun)) (t : Tree fun) (more : List (Tree fun)) (us : List Lexeme) → all ≡ done ++ t ∷ more → (heads : List Head) →
-    heads ≡ map (λ f. head_of (function_head f)) all →
-    function_at (first_named 0 heads) (map (function_of heads) done) (leaves fun t ++ us) ≡ reads (function_offences heads (map key done) t)
-    (function_of heads t) us
+    heads ≡ map (λ f. head_of (function_head f)) all → function_at (first_named 0 heads) (map (function_of heads) done) (leaves fun t ++ us)
+    ≡ reads (function_offences heads (map key done) t) (function_of heads t) us
 function_among all done t more us h heads e =
     let head : Tree fun → Head = λ f. head_of (function_head f) in
     let split : heads ≡ map head done ++ (head t ∷ map head more) = e ∙ (ap (map head) h ∙ map-append head done (t ∷ more)) in
@@ -94,8 +93,8 @@ function_among all done t more us h heads e =
     let n : length (map key done) ≡ length (map head done) = length-map done key ∙ sym (length-map done head) in
     let place : is_earlier (length (map key done)) (first_named 0 heads (key t)) ≡ list_any (λ other. bytes_eq other (key t)) (map key done) =
     ap (λ m. is_earlier m (first_named 0 heads (key t))) n
-        ∙ (ap (λ hs. is_earlier (length (map head done)) (first_named 0 hs (key t))) split
-        ∙ (earlier_named (key t) (map head done) (head t ∷ map head more) ∙ ap (list_any (λ other. bytes_eq other (key t))) (names_of done))) in
+    ∙ (ap (λ hs. is_earlier (length (map head done)) (first_named 0 hs (key t))) split
+    ∙ (earlier_named (key t) (map head done) (head t ∷ map head more) ∙ ap (list_any (λ other. bytes_eq other (key t))) (names_of done))) in
     function_reads heads (map (function_of heads) done) (map key done) t us l place
   where
     names_of : (ts : List (Tree fun)) → map (λ (h : Head). h.name) (map (λ f. head_of (function_head f)) ts) ≡ map key ts
@@ -113,9 +112,9 @@ unfolding program_at functions_at program_offences program_of heads_of
 program_reads t rest h =
     let all : List (Tree fun) = all_functions t in
     let n : length (heads_of t) ≡ length all = length-map all (λ f. head_of (function_head f)) in
-    let each : each_at (function_at (first_named 0 (heads_of t))) (length all) [] (flat_map (leaves fun) all ++ rest) ≡ reads
-        (each_offends (function_offences (heads_of t)) key [] all) (map (function_of (heads_of t)) all) rest =
+    let each : each_at (function_at (first_named 0 (heads_of t))) (length all) [] (flat_map (leaves fun) all ++ rest)
+    ≡ reads (each_offends (function_offences (heads_of t)) key [] all) (map (function_of (heads_of t)) all) rest =
     each_among (function_at (first_named 0 (heads_of t))) (leaves fun) (function_offences (heads_of t)) key (function_of (heads_of t)) all
-        (λ done x more us g. function_among all done x more us g (heads_of t) refl) rest in
+    (λ done x more us g. function_among all done x more us g (heads_of t) refl) rest in
     rw (heads_are t rest h, n, spelled_all t rest, each)
-        (reads_last (each_offends (function_offences (heads_of t)) key [] all) (map (function_of (heads_of t)) all) _ rest rest _ refl)
+    (reads_last (each_offends (function_offences (heads_of t)) key [] all) (map (function_of (heads_of t)) all) _ rest rest _ refl)

@@ -61,5 +61,5 @@ pub heads_turn : (done new : List Head) (all ts us : List Lexeme) → heads_at a
     new ≡ headed (front ts) (behind ts) → us ≡ behind ts → heads_at all ≡ (done ++ new) ++ heads_at us
 heads_turn done new all ts us i h n b =
     i ∙ (ap (λ hs. done ++ hs) (heads_go ts h)
-        ∙ (sym (append_assoc done (headed (front ts) (behind ts)) (heads_at (behind ts)))
-        ∙ (ap (λ hs. (done ++ hs) ++ heads_at (behind ts)) (sym n) ∙ ap (λ vs. (done ++ new) ++ heads_at vs) (sym b))))
+    ∙ (sym (append_assoc done (headed (front ts) (behind ts)) (heads_at (behind ts)))
+    ∙ (ap (λ hs. (done ++ hs) ++ heads_at (behind ts)) (sym n) ∙ ap (λ vs. (done ++ new) ++ heads_at vs) (sym b))))

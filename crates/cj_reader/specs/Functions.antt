@@ -65,7 +65,7 @@ registers_of t = texts_of (param_tokens t) ++ texts_of (other_tokens t)
 abbrev pub head_offences : List (List ℕ) → Tree head → List Refused
 head_offences earlier t =
     name_offences MAX_FUNCTIONS earlier (function_name t)
-        ++ (names_offences MAX_PARAMS [] (param_tokens t) ++ names_offences MAX_REGS (texts_of (param_tokens t)) (other_tokens t))
+    ++ (names_offences MAX_PARAMS [] (param_tokens t) ++ names_offences MAX_REGS (texts_of (param_tokens t)) (other_tokens t))
 
 -- ---- lines
 
@@ -77,7 +77,7 @@ line_number (number, (colon, i)) = number.token
 abbrev pub number_offences : List ℤ → Lexeme → List Refused
 number_offences earlier t =
     offends_if (nat_le MAX_LABELS (length earlier)) t TooMany
-        ++ (offends_if (not (is_line_number t.number)) t Range ++ offends_if (list_any (λ other. int_eq other t.number) earlier) t LabelTwice)
+    ++ (offends_if (not (is_line_number t.number)) t Range ++ offends_if (list_any (λ other. int_eq other t.number) earlier) t LabelTwice)
 
 unfoldable pub line_offences : Scope → List ℤ → Tree line → List Refused
 unfolding line

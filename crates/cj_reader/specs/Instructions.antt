@@ -8,14 +8,14 @@ use Rattle.cj_tokens.specs.Lexemes.{Lexeme}
 use Rattle.cj_tokens.specs.declared.refusal.Kind.TheVariants.{TooMany, NoFunction, Arguments}
 use Rattle.cj_tokens.specs.declared.refusal.Refused.{Refused}
 use Rattle.cj_grammar.specs.Grammar.{Tree, opt}
-use Rattle.cj_grammar.specs.Rules.{operands, more_operands, nop_instr, op_instr, cond_instr, call_instr, return_instr, print_instr, load_instr, store_instr,
-    fail_instr, instr}
+use Rattle.cj_grammar.specs.Rules.{operands, more_operands, nop_instr, op_instr, cond_instr, call_instr, return_instr, print_instr, load_instr, store_instr}
+use Rattle.cj_grammar.specs.Rules.{fail_instr, instr}
 use Rattle.cj_grammar.specs.Alternatives.{of_instr}
 use Rattle.cj_grammar.specs.Reading.{offence, offends_if}
 use Rattle.cj_reader.specs.declared.scope.Callee.{Callee}
 use Rattle.cj_reader.specs.Scopes.{Scope}
-use Rattle.cj_reader.specs.Operands.{is_long, register_offences, register_of, label_offences, label_of, target_offences, target_of, operand_offences,
-    operand_of, expr_offences, expr_of}
+use Rattle.cj_reader.specs.Operands.{is_long, register_offences, register_of, label_offences, label_of, target_offences, target_of, operand_offences}
+use Rattle.cj_reader.specs.Operands.{operand_of, expr_offences, expr_of}
 use Rattle.cj_ir.specs.declared.limits.TheConstants.{MAX_TEXT}
 
 -- ---- calls
@@ -140,10 +140,30 @@ fail_of (word, text) = Fail text.token.text
 
 unfoldable pub instr_offences : Scope → Tree instr → List Refused
 instr_offences s =
-    of_instr (record { nop = nop_offences s; op = op_offences s; cond = cond_offences s; call = call_offences s; return = return_offences s;
-        print = print_offences s; load = load_offences s; store = store_offences s; fail = fail_offences })
+    of_instr (record {
+      nop = nop_offences s;
+      op = op_offences s;
+      cond = cond_offences s;
+      call = call_offences s;
+      return = return_offences s;
+      print =
+          print_offences s;
+      load = load_offences s;
+      store = store_offences s;
+      fail = fail_offences;
+    })
 
 unfoldable pub instr_of : Scope → Tree instr → Instr
 instr_of s =
-    of_instr (record { nop = nop_of s; op = op_of s; cond = cond_of s; call = call_of s; return = return_of s; print = print_of s; load = load_of s;
-        store = store_of s; fail = fail_of })
+    of_instr (record {
+      nop = nop_of s;
+      op = op_of s;
+      cond = cond_of s;
+      call = call_of s;
+      return = return_of s;
+      print = print_of s;
+      load = load_of s;
+      store =
+          store_of s;
+      fail = fail_of;
+    })

@@ -1,6 +1,6 @@
 -- The reading of functions from their tokens. The order of the tokens is the grammar's, and is not looked at again.
-use Rattle.std.specs.Prelude.{ℕ, zero, suc, List, [], ◌∷◌, ◌++◌, length, Bool, false, cond, ◌||◌, not, Option, None, Some, Result, Ok, Err, nat_lt, nat_le,
-    ◌==◌}
+use Rattle.std.specs.Prelude.{ℕ, zero, suc, List, [], ◌∷◌, ◌++◌, length, Bool, false, cond, ◌||◌, not, Option, None, Some, Result, Ok, Err, nat_lt, nat_le}
+use Rattle.std.specs.Prelude.{◌==◌}
 use Rattle.std.specs.List.{list_any}
 use Rattle.std.specs.Str.{bytes_eq}
 use Rattle.cj_ir.specs.declared.language.FunId.{FunId}
@@ -20,8 +20,8 @@ use Rattle.cj_tokens.specs.Passing.{front, behind}
 use Rattle.cj_tokens.specs.declared.terminal.Terminal.{Terminal}
 use Rattle.cj_tokens.specs.declared.terminal.Terminal.TheVariants as terminal
 use Rattle.cj_tokens.specs.declared.refusal.Kind.{Kind}
-use Rattle.cj_tokens.specs.declared.refusal.Kind.TheVariants.{Syntax, TooMany, NameTwice, Range, LabelTwice, NoEntry, NoRegister, NoLabel, NoFunction,
-    Arguments}
+use Rattle.cj_tokens.specs.declared.refusal.Kind.TheVariants.{Syntax, TooMany, NameTwice, Range, LabelTwice, NoEntry, NoRegister, NoLabel, NoFunction}
+use Rattle.cj_tokens.specs.declared.refusal.Kind.TheVariants.{Arguments}
 use Rattle.cj_tokens.specs.declared.refusal.Refused.{Refused}
 use Rattle.cj_grammar.specs.OneAhead.{◌>>=◌}
 use Rattle.cj_grammar.specs.Reading.{offence}
@@ -133,7 +133,7 @@ unfoldable pub called_at : Scope → List Lexeme → Read Called
 called_at s ts =
     let inside : List Lexeme = behind (behind ts) in
     callee_at s (front ts) (count_at inside) >>= λ function. arguments_at s (count_at inside) inside >>= λ args. Ok
-        (record { function = function; args = args.0 }, behind args.1)
+    (record { function = function; args = args.0 }, behind args.1)
 
 -- ---- instructions, behind their first words
 
@@ -150,8 +150,8 @@ cond_at s ts =
 
 unfoldable pub call_at : Scope → List Lexeme → Read Instr
 call_at s ts =
-    dest_at s ts >>= λ dest. called_at s dest.1 >>= λ called. target_at s called.1 >>= λ next. Ok (instrs.Call dest.0 called.0.function called.0.args next.0,
-        next.1)
+    dest_at s ts >>= λ dest. called_at s dest.1 >>= λ called. target_at s called.1 >>= λ next. Ok
+    (instrs.Call dest.0 called.0.function called.0.args next.0, next.1)
 
 unfoldable pub return_at : Scope → List Lexeme → Read Instr
 return_at s ts = operand_at s ts >>= λ value. Ok (instrs.Return value.0, value.1)
@@ -166,8 +166,8 @@ load_at s ts =
 
 unfoldable pub store_at : Scope → List Lexeme → Read Instr
 store_at s ts =
-    address_at s ts >>= λ address. operand_at s (behind address.1) >>= λ value. target_at s value.1 >>= λ next. Ok (instrs.Store address.0 value.0 next.0,
-        next.1)
+    address_at s ts >>= λ address. operand_at s (behind address.1) >>= λ value. target_at s value.1 >>= λ next. Ok
+    (instrs.Store address.0 value.0 next.0, next.1)
 
 unfoldable pub fail_at : List Lexeme → Read Instr
 fail_at ts =
@@ -196,7 +196,7 @@ is_before n (Some place) = nat_lt place n
 unfoldable pub line_number_at : Scope → ℕ → Lexeme → Result ℕ Refused
 line_number_at s n t =
     refuse_if (nat_le MAX_LABELS n) t TooMany >>= λ u. refuse_if (not (is_line_number t.number)) t Range >>= λ u. refuse_if
-        (is_before n (s.line_at t.number)) t LabelTwice >>= λ u. Ok (natural t.number)
+    (is_before n (s.line_at t.number)) t LabelTwice >>= λ u. Ok (natural t.number)
 
 unfoldable pub line_at : Scope → List Line → List Lexeme → Read Line
 line_at s earlier ts =
@@ -208,7 +208,7 @@ line_at s earlier ts =
 unfoldable pub name_at : ℕ → List (List ℕ) → List Lexeme → Read (List ℕ)
 name_at limit earlier ts =
     refuse_if (is_long (front ts) || nat_le limit (length earlier)) (front ts) TooMany >>= λ u. refuse_if
-        (list_any (λ other. bytes_eq other (front ts).text) earlier) (front ts) NameTwice >>= λ u. word_at (front ts) >>= λ name. Ok (name, behind ts)
+    (list_any (λ other. bytes_eq other (front ts).text) earlier) (front ts) NameTwice >>= λ u. word_at (front ts) >>= λ name. Ok (name, behind ts)
 
 -- a comma and a name
 abbrev pub next_name_at : ℕ → List (List ℕ) → List Lexeme → Read (List ℕ)
@@ -230,7 +230,7 @@ others_at params ts =
 unfoldable pub declared_at : List Lexeme → Read Declared
 declared_at ts =
     names_at 8 (count_at (behind ts)) [] (behind ts) >>= λ params. others_at params.0 params.1 >>= λ all. Ok
-        (record { params = length params.0; registers = all.0 }, behind all.1)
+    (record { params = length params.0; registers = all.0 }, behind all.1)
 
 -- the function that has a name
 abbrev pub Known : Type 0
@@ -261,7 +261,7 @@ code_at known registers ts = body_at (scope_at known registers ts) (length (numb
 unfoldable pub function_at : Known → List Function → List Lexeme → Read Function
 function_at known earlier ts =
     function_name_at known (length earlier) (front (behind ts)) >>= λ name. declared_at (behind (behind ts)) >>= λ front. code_at known front.0.registers
-        (behind front.1) >>= λ code. Ok (record { name = name; params = front.0.params; regs = front.0.registers; code = code.0 }, code.1)
+    (behind front.1) >>= λ code. Ok (record { name = name; params = front.0.params; regs = front.0.registers; code = code.0 }, code.1)
 
 -- ---- programs
 

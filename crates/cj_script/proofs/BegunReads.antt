@@ -69,22 +69,29 @@ unfolding begun numbers begun_at begun_offences begun_of cells_of limit_of front
 begun_reads functions spent (name, (args, (None, (word, limit)))) ts =
     let us : List Lexeme = word.token ∷ limit.token ∷ ts in
     let regroup : (leaves numbers args ++ (word.token ∷ limit.token ∷ [])) ++ ts ≡ leaves numbers args
-        ++ us = append_assoc (leaves numbers args) (word.token ∷ limit.token ∷ []) ts in
+    ++ us = append_assoc (leaves numbers args) (word.token ∷ limit.token ∷ []) ts in
     let stop : is_terminal terminal.Number (front us) ≡ false = other_terminal terminal.Limit terminal.Number word.token word.is refl in
-    rw (regroup, numbers_read args us stop, numbers_passed args us stop, length-map, no_cells_read word (limit.token ∷ ts),
-        limit_read spent word.token limit.token ts)
+    rw (
+      regroup,
+      numbers_read args us stop,
+      numbers_passed args us stop,
+      length-map,
+      no_cells_read word
+          (limit.token ∷ ts),
+      limit_read spent word.token limit.token ts,
+    )
     (judged_then (callee_offences functions (length args) name.token) (limit_offences (pos spent) limit.token) (id_named functions name.token) _ ts _
     (reads_last (limit_offences (pos spent) limit.token) (unsigned_abs limit.token.number) _ ts ts _ refl))
 begun_reads functions spent (name, (args, (Some (memory, cells), (word, limit)))) ts =
     let us : List Lexeme = memory.token ∷ cells.token ∷ word.token ∷ limit.token ∷ ts in
     let regroup : (leaves numbers args ++ (memory.token ∷ cells.token ∷ word.token ∷ limit.token ∷ [])) ++ ts ≡ leaves numbers args
-        ++ us = append_assoc (leaves numbers args) (memory.token ∷ cells.token ∷ word.token ∷ limit.token ∷ []) ts in
+    ++ us = append_assoc (leaves numbers args) (memory.token ∷ cells.token ∷ word.token ∷ limit.token ∷ []) ts in
     let stop : is_terminal terminal.Number (front us) ≡ false = other_terminal terminal.Memory terminal.Number memory.token memory.is refl in
     rw (regroup, numbers_read args us stop, numbers_passed args us stop, length-map, cells_read memory cells.token (word.token ∷ limit.token ∷ ts))
     (judged_then (callee_offences functions (length args) name.token) (out_of_range (pos 0) (pos 65536) cells.token ++ limit_offences (pos spent) limit.token)
-        (id_named functions name.token) _ ts _
+    (id_named functions name.token) _ ts _
     (reads_then (out_of_range (pos 0) (pos 65536) cells.token) (limit_offences (pos spent) limit.token) (unsigned_abs cells.token.number) _
-        (word.token ∷ limit.token ∷ ts) ts _
+    (word.token ∷ limit.token ∷ ts) ts _
     (rw (limit_read spent word.token limit.token ts) (reads_last (limit_offences (pos spent) limit.token) (unsigned_abs limit.token.number) _ ts ts _ refl))))
 
 pub begun_known : (functions : List Function) (spent : ℕ) (old : List Lexeme) (t : Tree begun) (ts : List Lexeme) → old ≡ leaves begun t ++ ts →

@@ -12,8 +12,8 @@ use Rattle.cj_ir.specs.declared.script.ScriptCall.{ScriptCall}
 use Rattle.cj_grammar.specs.Reading.{offence}
 use Rattle.cj_script.specs.Meaning.{out_of_range, limit_offences, callee_offences, id_named}
 use Rattle.cj_script.specs.Reading.{numbers_at, behind_numbers, cells_at, limit_at, begun_at, is_call, limits, call_at, calls_at}
-use Rattle.cj_script.proofs.Turns.{behind_within, Within, ok_within, err_within, judged_within, then_within, cond_within, behind_shorter, all_stops, all_fails,
-    all_goes}
+use Rattle.cj_script.proofs.Turns.{behind_within, Within, ok_within, err_within, judged_within, then_within, cond_within, behind_shorter, all_stops, all_fails}
+use Rattle.cj_script.proofs.Turns.{all_goes}
 
 behind_numbers_within : (ts : List Lexeme) → length (behind_numbers ts) ≤ length ts
 unfolding behind_numbers

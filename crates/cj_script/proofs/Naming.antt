@@ -13,8 +13,8 @@ use Rattle.cj_tokens.specs.Lexemes.{Lexeme}
 use Rattle.cj_tokens.specs.declared.refusal.Kind.TheVariants.{NoFunction, Arguments, NoLabel, NotCond}
 use Rattle.cj_tokens.specs.declared.refusal.Refused.{Refused}
 use Rattle.cj_grammar.specs.Reading.{offence, highest}
-use Rattle.cj_script.specs.Meaning.{is_named, function_named, id_named, long_name, function_offences, callee_offences, other_count, is_numbered, is_cond,
-    label_offences, label_of}
+use Rattle.cj_script.specs.Meaning.{is_named, function_named, id_named, long_name, function_offences, callee_offences, other_count, is_numbered, is_cond}
+use Rattle.cj_script.specs.Meaning.{label_offences, label_of}
 use Rattle.cj_script.specs.Reading.{judged}
 use Rattle.cj_ir.proofs.ListReads.{at_index}
 
@@ -46,8 +46,8 @@ short t h = let e : nat_lt 32 (length t.text) ≡ false = grind (arith, nat_test
 
 -- The NAME of a function that is there has no offence.
 pub named_judged : (functions : List Function) (name : Lexeme) (k : ℕ) → length name.text ≤ 32 → k < length functions →
-    position (is_named name) functions ≡ Some k →
-    judged (function_offences functions name) (id_named functions name) ≡ Ok (let id : FunId = record { 0 = k } in id)
+    position (is_named name) functions ≡ Some k → judged (function_offences functions name) (id_named functions name)
+    ≡ Ok (let id : FunId = record { 0 = k } in id)
 unfolding function_offences
 named_judged functions name k h w p =
     let s : (f : Function) × (slice_get functions k ≡ Some f) = at_index functions k w in
@@ -74,8 +74,8 @@ pub callee_judged : (functions : List Function) (count : ℕ) (name : Lexeme) (i
     judged (callee_offences functions count name) (id_named functions name) ≡ Ok id
 unfolding callee_offences
 callee_judged functions count name id f h e n =
-    let o : (function_offences functions name ≡ []) × (id_named functions name ≡ id) = judged_ok (function_offences functions name)
-        (id_named functions name) id h in
+    let o : (function_offences functions name ≡ [])
+    × (id_named functions name ≡ id) = judged_ok (function_offences functions name) (id_named functions name) id h in
     let t : (f.params == count) ≡ true = grind (arith, nat_tests) in
     rw (o.0, e, t, o.1) refl
 
@@ -85,14 +85,14 @@ pub count_judged : (functions : List Function) (count : ℕ) (name : Lexeme) (id
     judged (callee_offences functions count name) (id_named functions name) ≡ Err (offence name Arguments)
 unfolding callee_offences
 count_judged functions count name id f h e n =
-    let o : (function_offences functions name ≡ []) × (id_named functions name ≡ id) = judged_ok (function_offences functions name)
-        (id_named functions name) id h in
+    let o : (function_offences functions name ≡ [])
+    × (id_named functions name ≡ id) = judged_ok (function_offences functions name) (id_named functions name) id h in
     let t : (f.params == count) ≡ false = grind (arith, nat_tests) in
     rw (o.0, e, t) refl
 
 pub callee_unnamed : (functions : List Function) (count : ℕ) (name : Lexeme) (e : Refused) →
-    judged (function_offences functions name) (id_named functions name) ≡ Err e →
-    judged (callee_offences functions count name) (id_named functions name) ≡ Err e
+    judged (function_offences functions name) (id_named functions name) ≡ Err e → judged (callee_offences functions count name) (id_named functions name)
+    ≡ Err e
 unfolding callee_offences
 callee_unnamed functions count name e h = go (function_offences functions name) h
   where

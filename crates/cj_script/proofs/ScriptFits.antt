@@ -1,6 +1,6 @@
 -- A script that is read fits its program.
-use Rattle.std.proofs.Common.{◌≡◌, ℕ, ◌+◌, ◌<◌, ◌≤◌, pos, true, false, Bool, cond, List, [], ◌∷◌, ◌++◌, length, Ok, Err, refl, ap, subst, length-append, arith,
-    zero, suc}
+use Rattle.std.proofs.Common.{◌≡◌, ℕ, ◌+◌, ◌<◌, ◌≤◌, pos, true, false, Bool, cond, List, [], ◌∷◌, ◌++◌, length, Ok, Err, refl, ap, subst, length-append, arith}
+use Rattle.std.proofs.Common.{zero, suc}
 use Rattle.std.specs.Prelude.{Result, IfOk, All, unsigned_abs, nat_le}
 use Rattle.std.proofs.lemmas.Bool.Decides.{nat_tests}
 use Rattle.std.proofs.lemmas.List.Elements.{All-nil, All-push}
@@ -20,10 +20,10 @@ use Rattle.cj_grammar.specs.OneAhead.{◌>>=◌}
 use Rattle.cj_grammar.specs.Reading.{offence}
 use Rattle.cj_grammar.specs.Readers.{Read, Gives}
 use Rattle.cj_script.specs.Fitting.{FitsSetup, FitsCall, FitsScript}
-use Rattle.cj_script.specs.Meaning.{function_named, id_named, out_of_range, function_offences, callee_offences, limit_offences, parameter_offences,
-    parameter_of, label_offences, label_of}
-use Rattle.cj_script.specs.Reading.{judged, numbers_at, behind_numbers, cells_at, limit_at, begun_at, many_at, all_at, is_call, limits, call_at, calls_at,
-    guess_at, cold_at, warm_at, setup_at, is_setup, next_setup, setups_at, script_at}
+use Rattle.cj_script.specs.Meaning.{function_named, id_named, out_of_range, function_offences, callee_offences, limit_offences, parameter_offences}
+use Rattle.cj_script.specs.Meaning.{parameter_of, label_offences, label_of}
+use Rattle.cj_script.specs.Reading.{judged, numbers_at, behind_numbers, cells_at, limit_at, begun_at, many_at, all_at, is_call, limits, call_at, calls_at}
+use Rattle.cj_script.specs.Reading.{guess_at, cold_at, warm_at, setup_at, is_setup, next_setup, setups_at, script_at}
 use Rattle.cj_script.proofs.CallTurns.{limits_more}
 use Rattle.cj_script.proofs.Offences.{in_range, limit_fine, function_fine, callee_fine, parameter_fine, label_fine}
 
@@ -33,8 +33,10 @@ record Grants (X : Type 0) (P : X → Type 0) (read : Read X) : Type 0 where
 
 ok_grants : {X : Type 0} (P : X → Type 0) (x : X) (us : List Lexeme) → P x → Grants X P (Ok (x, us))
 ok_grants {X = X} P x us h =
-    record { grants = λ y vs e. let one : X × List Lexeme = (x, us) in let other : X × List Lexeme = (y, vs) in let same : one ≡ other = cc in subst P
-        (ap (λ q. q.0) same) h }
+    record {
+      grants = λ y vs e. let one : X × List Lexeme = (x, us) in let other : X × List Lexeme = (y, vs) in let same : one
+          ≡ other = cc in subst P (ap (λ q. q.0) same) h;
+    }
 
 err_grants : {X : Type 0} (P : X → Type 0) (e : Refused) → Grants X P (Err e)
 err_grants P e = record { grants = λ y vs h. cc }
@@ -59,7 +61,7 @@ many_grants : {X : Type 0} (P : List X → Type 0) (more : List Lexeme → Bool)
 many_grants P more one keeps zero earlier ts h = ok_grants P earlier ts h
 many_grants {X = X} P more one keeps (suc n) earlier ts h =
     go (more ts) (then_grants (λ x. P (earlier ++ x ∷ [])) P (one earlier ts) _ (keeps earlier ts h)
-        (λ x g. many_grants P more one keeps n (earlier ++ x.0 ∷ []) x.1 g))
+    (λ x g. many_grants P more one keeps n (earlier ++ x.0 ∷ []) x.1 g))
   where
     go : (b : Bool) → Grants (List X) P (one earlier ts >>= λ x. many_at more one n (earlier ++ x.0 ∷ []) x.1) →
         Grants (List X) P (cond b (one earlier ts >>= λ x. many_at more one n (earlier ++ x.0 ∷ []) x.1) (Ok (earlier, ts)))
@@ -95,12 +97,17 @@ unfolding begun_at IsLimit
 begun_grants functions spent ts =
     judged_grants (IsRun functions spent) (callee_offences functions (length (numbers_at (behind ts))) (front ts)) (id_named functions (front ts)) _
     (λ callee. then_grants (λ cells. cells ≤ 65536) (IsRun functions spent) (cells_at (behind_numbers (behind ts))) _
-        (cells_grants (behind_numbers (behind ts)))
+    (cells_grants (behind_numbers (behind ts)))
     (λ cells few. then_grants (IsLimit spent) (IsRun functions spent) (limit_at spent cells.1) _ (limit_grants spent cells.1)
     (λ limit fine. ok_grants (IsRun functions spent) _ limit.1
     (record {
-      fits = record { takes = callee_fine functions (length (numbers_at (behind ts))) (front ts) callee; few_cells = few; some_turn = fine.0;
-          few_turns = fine.1 };
+      fits = record {
+        takes = callee_fine functions (length (numbers_at (behind ts))) (front ts) callee;
+        few_cells = few;
+        some_turn = fine.0;
+        few_turns =
+            fine.1;
+      };
       within = fine.2;
     }))))
 
@@ -119,7 +126,7 @@ call_grants : (functions : List Function) (earlier : List ScriptCall) (ts : List
 unfolding call_at
 call_grants functions earlier ts h =
     cond_grants (λ call. AreCalls functions (earlier ++ call ∷ [])) (nat_le 256 (length earlier)) (Err (offence (front ts) TooMany))
-        (begun_at functions (limits earlier) (behind ts))
+    (begun_at functions (limits earlier) (behind ts))
     (err_grants (λ call. AreCalls functions (earlier ++ call ∷ [])) (offence (front ts) TooMany))
     (λ few. record { grants = λ call us e. more few call ((begun_grants functions (limits earlier) (behind ts)).grants call us e) })
   where
@@ -145,7 +152,7 @@ unfolding guess_at
 guess_grants functions ts =
     judged_grants (FitsSetup functions) (function_offences functions (front ts)) (id_named functions (front ts)) _
     (λ function. judged_grants (FitsSetup functions) (parameter_offences (function_named functions (front ts)) (front (behind ts)))
-        (parameter_of (function_named functions (front ts)) (front (behind ts))) _
+    (parameter_of (function_named functions (front ts)) (front (behind ts))) _
     (λ parameter. ok_grants (FitsSetup functions) _ (behind (behind (behind ts))) (parameter_fine functions (front ts) (front (behind ts)) function parameter)))
 
 cold_grants : (functions : List Function) (ts : List Lexeme) → Grants Setup (FitsSetup functions) (cold_at functions ts)
@@ -153,7 +160,7 @@ unfolding cold_at
 cold_grants functions ts =
     judged_grants (FitsSetup functions) (function_offences functions (front ts)) (id_named functions (front ts)) _
     (λ function. judged_grants (FitsSetup functions) (label_offences (function_named functions (front ts)) (front (behind ts)))
-        (label_of (function_named functions (front ts)) (front (behind ts))) _
+    (label_of (function_named functions (front ts)) (front (behind ts))) _
     (λ label. ok_grants (FitsSetup functions) _ (behind (behind (behind ts))) (label_fine functions (front ts) (front (behind ts)) function label)))
 
 warm_grants : (functions : List Function) (ts : List Lexeme) → Grants Setup (FitsSetup functions) (warm_at functions ts)
@@ -164,7 +171,7 @@ warm_grants functions ts =
     (λ level.
     let found : (f : Function) × (function_named functions (front ts) ≡ _) × _ = function_fine functions (front ts) function in
     let range : (pos (unsigned_abs (front (behind ts)).number) ≡ (front (behind ts)).number) × (1 ≤ unsigned_abs (front (behind ts)).number)
-        × (unsigned_abs (front (behind ts)).number ≤ 3) = in_range 1 3 (front (behind ts)) level in
+    × (unsigned_abs (front (behind ts)).number ≤ 3) = in_range 1 3 (front (behind ts)) level in
     ok_grants (FitsSetup functions) _ (behind (behind ts)) (slice_get_within functions (id_named functions (front ts)).0 found.0 found.2, range.1, range.2)))
 
 setup_grants : (functions : List Function) (ts : List Lexeme) → Grants Setup (FitsSetup functions) (setup_at functions ts)
@@ -172,7 +179,7 @@ unfolding setup_at
 setup_grants functions ts =
     cond_grants (FitsSetup functions) (is_terminal terminal.Guess (front ts)) _ _ (guess_grants functions (behind ts))
     (λ other. cond_grants (FitsSetup functions) (is_terminal terminal.Cold (front ts)) _ _ (cold_grants functions (behind ts))
-        (λ last. warm_grants functions (behind ts)))
+    (λ last. warm_grants functions (behind ts)))
 
 setups_grants : (functions : List Function) (ts : List Lexeme) → Grants (List Setup) (All (FitsSetup functions)) (setups_at functions [] ts)
 unfolding setups_at all_at

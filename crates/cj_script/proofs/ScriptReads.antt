@@ -39,7 +39,7 @@ unfolding script script_calls script_at script_offences script_of front behind
 script_reads p (word, (lines, calls)) last ts h =
     let us : List Lexeme = leaves script_calls calls ++ last ∷ ts in
     let regroup : (leaves setups lines ++ leaves script_calls calls) ++ last ∷ ts ≡ leaves setups lines
-        ++ us = append_assoc (leaves setups lines) (leaves script_calls calls) (last ∷ ts) in
+    ++ us = append_assoc (leaves setups lines) (leaves script_calls calls) (last ∷ ts) in
     let no_more : is_call (last ∷ ts) ≡ false = other_terminal terminal.End terminal.Call last h refl in
     rw (regroup, setups_read p.functions lines us (after_setups calls last ts h))
     (reads_then (setups_offences p.functions lines) (calls_offences p.functions calls) (setups_of p.functions lines) _ us (last ∷ ts) _

@@ -19,7 +19,7 @@ guess_within functions ts =
     let three : length (behind (behind (behind ts))) ≤ length (behind (behind ts)) = behind_within (behind (behind ts)) in
     judged_within (function_offences functions (front ts)) (id_named functions (front ts)) (length ts) _
     (judged_within (parameter_offences (function_named functions (front ts)) (front (behind ts)))
-        (parameter_of (function_named functions (front ts)) (front (behind ts))) (length ts) _
+    (parameter_of (function_named functions (front ts)) (front (behind ts))) (length ts) _
     (ok_within _ (length ts) (behind (behind (behind ts))) (omega arith)))
 
 cold_within : (functions : List Function) (ts : List Lexeme) → Within Setup (length ts) (cold_at functions ts)
@@ -30,7 +30,7 @@ cold_within functions ts =
     let three : length (behind (behind (behind ts))) ≤ length (behind (behind ts)) = behind_within (behind (behind ts)) in
     judged_within (function_offences functions (front ts)) (id_named functions (front ts)) (length ts) _
     (judged_within (label_offences (function_named functions (front ts)) (front (behind ts)))
-        (label_of (function_named functions (front ts)) (front (behind ts))) (length ts) _
+    (label_of (function_named functions (front ts)) (front (behind ts))) (length ts) _
     (ok_within _ (length ts) (behind (behind (behind ts))) (omega arith)))
 
 warm_within : (functions : List Function) (ts : List Lexeme) → Within Setup (length ts) (warm_at functions ts)
@@ -47,7 +47,7 @@ unfolding setup_at
 setup_within functions ts =
     cond_within (is_terminal terminal.Guess (front ts)) (length (behind ts)) (guess_at functions (behind ts)) _ (guess_within functions (behind ts))
     (cond_within (is_terminal terminal.Cold (front ts)) (length (behind ts)) (cold_at functions (behind ts)) (warm_at functions (behind ts))
-        (cold_within functions (behind ts)) (warm_within functions (behind ts)))
+    (cold_within functions (behind ts)) (warm_within functions (behind ts)))
 
 setup_taken : (ts : List Lexeme) → is_setup ts ≡ true → length (behind ts) < length ts
 unfolding front behind

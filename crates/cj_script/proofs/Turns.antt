@@ -1,6 +1,6 @@
 -- Readers of many items, turn by turn.
-use Rattle.std.proofs.Common.{◌≡◌, ℕ, zero, suc, ◌<◌, ◌≤◌, Bool, true, false, cond, inl, inr, List, [], ◌∷◌, ◌++◌, length, Ok, Err, refl, ap, sym, ◌∙◌,
-    append_assoc, arith}
+use Rattle.std.proofs.Common.{◌≡◌, ℕ, zero, suc, ◌<◌, ◌≤◌, Bool, true, false, cond, inl, inr, List, [], ◌∷◌, ◌++◌, length, Ok, Err, refl, ap, sym, ◌∙◌}
+use Rattle.std.proofs.Common.{append_assoc, arith}
 use Rattle.std.specs.Prelude.{map, flat_map}
 use Rattle.std.proofs.lemmas.List.{append-nil}
 use Rattle.std.proofs.lemmas.Bool.{cases_Bool}
@@ -91,7 +91,7 @@ module _ {X : Type 0} (more : List Lexeme → Bool) (one : List X → List Lexem
   pub all_reads : {T : Type 0} (spelled : T → List Lexeme) (offends : List X → T → List Refused) (means : T → X) (earlier : List X) (items : List T)
       (ts : List Lexeme)
       → ((earlier : List X) (t : T) (ts : List Lexeme) →
-          (more (spelled t ++ ts) ≡ true) × (one earlier (spelled t ++ ts) ≡ reads (offends earlier t) (means t) ts))
+      (more (spelled t ++ ts) ≡ true) × (one earlier (spelled t ++ ts) ≡ reads (offends earlier t) (means t) ts))
       → more ts ≡ false
       → all_at more one earlier (flat_map spelled items ++ ts) ≡ reads (each_offends offends means earlier items) (earlier ++ map means items) ts
   all_reads spelled offends means earlier [] ts r m = rw append-nil (all_stops earlier ts m)
@@ -100,11 +100,10 @@ module _ {X : Type 0} (more : List Lexeme → Bool) (one : List X → List Lexem
       let regroup : (spelled t ++ flat_map spelled items) ++ ts ≡ spelled t ++ us = append_assoc (spelled t) (flat_map spelled items) ts in
       rw regroup (go (offends earlier t) refl (all_reads spelled offends means (earlier ++ means t ∷ []) items ts r m))
     where
-      go : (es : List Refused) → offends earlier t ≡ es →
-          all_at more one (earlier ++ means t ∷ []) (flat_map spelled items ++ ts) ≡ reads (each_offends offends means (earlier ++ means t ∷ []) items)
-          ((earlier ++ means t ∷ []) ++ map means items) ts →
-          all_at more one earlier (spelled t ++ (flat_map spelled items ++ ts)) ≡ reads
-          (offends earlier t ++ each_offends offends means (earlier ++ means t ∷ []) items) (earlier ++ (means t ∷ map means items)) ts
+      go : (es : List Refused) → offends earlier t ≡ es → all_at more one (earlier ++ means t ∷ []) (flat_map spelled items ++ ts)
+          ≡ reads (each_offends offends means (earlier ++ means t ∷ []) items) ((earlier ++ means t ∷ []) ++ map means items) ts →
+          all_at more one earlier (spelled t ++ (flat_map spelled items ++ ts))
+          ≡ reads (offends earlier t ++ each_offends offends means (earlier ++ means t ∷ []) items) (earlier ++ (means t ∷ map means items)) ts
       go [] o ih =
           let us : List Lexeme = flat_map spelled items ++ ts in
           rw o (all_goes earlier (spelled t ++ us) (means t, us) (r earlier t us).0 ((r earlier t us).1 ∙ rw o refl)

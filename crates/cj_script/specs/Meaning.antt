@@ -1,7 +1,7 @@
 -- What a script means behind its program, and the offences of its tokens from the left. A token's own offences
 -- stand in the order of their table, and the highest of them counts.
-use Rattle.std.specs.Prelude.{ℕ, ℤ, pos, ◌+ℤ◌, Bool, false, true, not, ◌&&◌, List, [], ◌∷◌, ◌++◌, length, map, take, Option, None, Some, unwrap_or, position,
-    nat_le, nat_lt, int_le, int_lt, unsigned_abs, ◌==◌}
+use Rattle.std.specs.Prelude.{ℕ, ℤ, pos, ◌+ℤ◌, Bool, false, true, not, ◌&&◌, List, [], ◌∷◌, ◌++◌, length, map, take, Option, None, Some, unwrap_or, position}
+use Rattle.std.specs.Prelude.{nat_le, nat_lt, int_le, int_lt, unsigned_abs, ◌==◌}
 use Rattle.std.specs.List.{find}
 use Rattle.std.specs.Ordering.{int_eq}
 use Rattle.std.specs.Str.{bytes_eq}

@@ -16,8 +16,8 @@ use Rattle.cj_tokens.specs.declared.terminal.Terminal.TheVariants as terminal
 use Rattle.cj_grammar.specs.OneAhead.{◌>>=◌}
 use Rattle.cj_grammar.specs.Reading.{offence}
 use Rattle.cj_grammar.specs.Readers.{Read}
-use Rattle.cj_script.specs.Meaning.{function_named, id_named, out_of_range, function_offences, callee_offences, limit_offences, parameter_offences,
-    parameter_of, label_offences, label_of}
+use Rattle.cj_script.specs.Meaning.{function_named, id_named, out_of_range, function_offences, callee_offences, limit_offences, parameter_offences}
+use Rattle.cj_script.specs.Meaning.{parameter_of, label_offences, label_of}
 use Rattle.cj_script.specs.declared.limits.TheConstants.{MAX_CALLS, USUAL_CELLS}
 
 -- the first offence, or a value

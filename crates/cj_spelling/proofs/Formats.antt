@@ -157,8 +157,14 @@ pub three_reads : {A B C Z : Type 0} {InA : A → Type 0} {InB : B → Type 0} {
     List ℕ} {rA : Reading A} {rB : Reading B} {rC : Reading C} (f : A → B → C → Z) → IsFormat InA sA rA → IsFormat InB sB rB → IsFormat InC sC rC →
     (a : A) (b : B) (c : C) (rest : List ℕ) → InA a → InB b → InC c → three_at f rA rB rC ((sA a ++ (sB b ++ sC c)) ++ rest) ≡ Some (f a b c, rest)
 three_reads {sA = sA} {sB = sB} {sC = sC} f FA FB FC a b c rest ia ib ic =
-    rw (append_assoc (sA a) (sB b ++ sC c) rest, append_assoc (sB b) (sC c) rest, FA.reads a (sB b ++ (sC c ++ rest)) ia, FB.reads b (sC c ++ rest) ib,
-        FC.reads c rest ic) refl
+    rw (
+      append_assoc (sA a) (sB b ++ sC c) rest,
+      append_assoc (sB b) (sC c) rest,
+      FA.reads a (sB b ++ (sC c ++ rest)) ia,
+      FB.reads b
+          (sC c ++ rest) ib,
+      FC.reads c rest ic,
+    ) refl
 
 pub three_spells : {A B C Z : Type 0} {InA : A → Type 0} {InB : B → Type 0} {InC : C → Type 0} {sA : A → List ℕ} {sB : B → List ℕ} {sC : C →
     List ℕ} {rA : Reading A} {rB : Reading B} {rC : Reading C} (f : A → B → C → Z) → IsFormat InA sA rA → IsFormat InB sB rB → IsFormat InC sC rC →
@@ -196,8 +202,16 @@ pub four_reads : {A B C D Z : Type 0} {InA : A → Type 0} {InB : B → Type 0} 
     IsFormat InB sB rB → IsFormat InC sC rC → IsFormat InD sD rD → (a : A) (b : B) (c : C) (d : D) (rest : List ℕ) → InA a → InB b → InC c → InD d →
     four_at f rA rB rC rD ((sA a ++ (sB b ++ (sC c ++ sD d))) ++ rest) ≡ Some (f a b c d, rest)
 four_reads {sA = sA} {sB = sB} {sC = sC} {sD = sD} f FA FB FC FD a b c d rest ia ib ic id =
-    rw (append_assoc (sA a) (sB b ++ (sC c ++ sD d)) rest, append_assoc (sB b) (sC c ++ sD d) rest, append_assoc (sC c) (sD d) rest,
-        FA.reads a (sB b ++ (sC c ++ (sD d ++ rest))) ia, FB.reads b (sC c ++ (sD d ++ rest)) ib, FC.reads c (sD d ++ rest) ic, FD.reads d rest id) refl
+    rw (
+      append_assoc (sA a) (sB b ++ (sC c ++ sD d)) rest,
+      append_assoc (sB b) (sC c ++ sD d) rest,
+      append_assoc (sC c) (sD d) rest,
+      FA.reads a
+          (sB b ++ (sC c ++ (sD d ++ rest))) ia,
+      FB.reads b (sC c ++ (sD d ++ rest)) ib,
+      FC.reads c (sD d ++ rest) ic,
+      FD.reads d rest id,
+    ) refl
 
 pub four_spells : {A B C D Z : Type 0} {InA : A → Type 0} {InB : B → Type 0} {InC : C → Type 0} {InD : D → Type 0} {sA : A → List ℕ} {sB : B →
     List ℕ} {sC : C → List ℕ} {sD : D → List ℕ} {rA : Reading A} {rB : Reading B} {rC : Reading C} {rD : Reading D} (f : A → B → C → D → Z) →

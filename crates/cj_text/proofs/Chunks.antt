@@ -26,7 +26,7 @@ pub before_is : (ps : List Piece) (rest : List ℕ) → pieces_text ps ++ rest �
 before_is [] rest = refl
 before_is (p ∷ ps) rest =
     append_assoc (gap_text p.gap ++ p.text) (pieces_text ps) rest ∙ append_assoc (gap_text p.gap) p.text (pieces_text ps ++ rest)
-        ∙ ap (λ bytes. gap_text p.gap ++ (p.text ++ bytes)) (before_is ps rest)
+    ∙ ap (λ bytes. gap_text p.gap ++ (p.text ++ bytes)) (before_is ps rest)
 
 pub before_append : (ps qs : List Piece) (rest : List ℕ) → before (ps ++ qs) rest ≡ before ps (before qs rest)
 before_append [] qs rest = refl
@@ -116,8 +116,8 @@ key_blank line k h = record {
 
 -- the bytes behind a mark, where they stand apart
 behind_mark : (k : Terminal) (rest : List ℕ) → Apart rest → ends_mark k rest ≡ true
-behind_mark Minus rest h = let d : begins is_ascii_digit rest ≡ false = no_digit rest h in let g : begins is_greater rest ≡ false = no_greater rest h in rw
-    (d, g) refl
+behind_mark Minus rest h = let d : begins is_ascii_digit rest ≡ false = no_digit rest h in let g : begins is_greater rest
+    ≡ false = no_greater rest h in rw (d, g) refl
 behind_mark _ rest h = refl
 
 pub mark_blank : (line : ℕ) (k : Terminal) → is_mark_terminal k ≡ true → Chunk line line (blank (spelling k) ∷ []) (fixed k line ∷ [])

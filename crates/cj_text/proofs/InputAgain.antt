@@ -45,7 +45,7 @@ functions_known fs well written =
     let fine_all : Every (IsFunctionFine fs) fs = every_of_all (IsFunctionFine fs) fs well.functions in
     let names : Every (λ (f : Function). IsName f.name) fs = every_map IsFunctionWritten (λ (f : Function). IsName f.name) (λ f w. w.name) fs written_all in
     every_both (IsFunctionFine fs) IsFunctionWritten (FunctionKnown fs) (λ f fine w. function_known fs f names well.functions_differ fine w) fs fine_all
-        written_all
+    written_all
 
 input_known : (f : Function) (more : List Function) (s : Script) → IsWellFormed (record { functions = f ∷ more }) →
     IsProgramWritten (record { functions = f ∷ more }) → FitsScript (record { functions = f ∷ more }) s → IsScriptWritten s → InputKnown f more s
@@ -68,9 +68,8 @@ pub nothing_left : (line : ℕ) → lexed line [] ≡ end_token line ∷ []
 unfolding items lexeme_of terminal_of text_of worth
 nothing_left line = refl
 
-text_tokens : (f : Function) (more : List Function) (s : Script) → InputKnown f more s →
-    leaves rule.input (input_tree (f ∷ more) f more s) ≡ lexemes_of (pieces_text (functions_pieces (f ∷ more) (f ∷ more) ++ script_pieces (f ∷ more) s) ++ 10
-    ∷ [])
+text_tokens : (f : Function) (more : List Function) (s : Script) → InputKnown f more s → leaves rule.input (input_tree (f ∷ more) f more s)
+    ≡ lexemes_of (pieces_text (functions_pieces (f ∷ more) (f ∷ more) ++ script_pieces (f ∷ more) s) ++ 10 ∷ [])
 unfolding rule.input input_tree
 text_tokens f more s k =
     let fs : List Function = f ∷ more in
@@ -82,12 +81,12 @@ text_tokens f more s k =
     let script_leaves : List Lexeme = leaves rule.script (script_tree fs behind s) in
     let all : Inside 1 last (program ++ script) (fun_leaves ++ script_leaves) =
     functions_inside fs f more k.functions.0 k.functions.1 ▹ script_chunk fs s k.setups k.calls behind in
-    let bytes : lexed 1 (pieces_text (program ++ script) ++ 10 ∷ []) ≡ lexed 1 (before (program ++ script) (10 ∷ [])) = ap (lexed 1)
-        (before_is (program ++ script) (10 ∷ [])) in
+    let bytes : lexed 1 (pieces_text (program ++ script) ++ 10 ∷ [])
+    ≡ lexed 1 (before (program ++ script) (10 ∷ [])) = ap (lexed 1) (before_is (program ++ script) (10 ∷ [])) in
     let read : lexed 1 (before (program ++ script) (10 ∷ [])) ≡ (fun_leaves ++ script_leaves) ++ lexed last (10 ∷ []) = all.reads (10 ∷ []) refl in
     let end : lexed last (10 ∷ []) ≡ end_token (next_line last) ∷ [] = line_feed_again last [] ∙ nothing_left (next_line last) in
-    sym (bytes ∙ (read ∙
-        (ap (λ (ts : List Lexeme). (fun_leaves ++ script_leaves) ++ ts) end ∙ append_assoc fun_leaves script_leaves (end_token (next_line last) ∷ []))))
+    sym (bytes ∙ (read ∙ (ap (λ (ts : List Lexeme). (fun_leaves ++ script_leaves) ++ ts) end
+    ∙ append_assoc fun_leaves script_leaves (end_token (next_line last) ∷ []))))
 
 -- ---- meaning
 

@@ -60,8 +60,9 @@ reg_known f r names differ h =
     let s : (x : List ℕ) × (slice_get f.regs r.0 ≡ Some x) = at_index f.regs r.0 h in
     let t : reg_text f r ≡ s.0 = ap text_or_none s.1 in
     let n : IsName s.0 = every_at IsName f.regs r.0 s.0 names s.1 in
-    let p : name_place f.regs s.0 ≡ Some r.0 = first_position (λ other. bytes_eq other s.0) r.0 f.regs s.0
-        (first_of_differing (λ name. name) bytes_eq bytes_eq-Decides r.0 f.regs s.0 differ s.1) in
+    let p : name_place f.regs s.0
+    ≡ Some r.0 = first_position (λ other. bytes_eq other s.0) r.0 f.regs s.0
+    (first_of_differing (λ name. name) bytes_eq bytes_eq-Decides r.0 f.regs s.0 differ s.1) in
     record {
       name = subst IsName (sym t) n;
       short = subst (λ w. nat_lt 32 (length w) ≡ false) (sym t) (name_short s.0 n);
@@ -100,9 +101,9 @@ label_known f l small differ h =
     let t : label_number f l ≡ s.0.name = ap number_at s.1 in
     let w : label_text f l ≡ decimal s.0.name = ap number_text s.1 in
     let n : s.0.name ≤ 65535 = every_at (λ line. line.name ≤ 65535) f.code l.0 s.0 small s.1 in
-    let p : number_place (numbers f.code) (pos s.0.name) ≡ Some l.0 = position_map (λ (line : Line). pos line.name)
-        (λ other. int_eq other (pos s.0.name)) 0 f.code ∙ first_placed (λ (other : Line). int_eq (pos other.name) (pos s.0.name)) l.0 f.code s.0
-        (line_first f.code l.0 s.0 differ s.1) in
+    let p : number_place (numbers f.code) (pos s.0.name)
+    ≡ Some l.0 = position_map (λ (line : Line). pos line.name) (λ other. int_eq other (pos s.0.name)) 0 f.code
+    ∙ first_placed (λ (other : Line). int_eq (pos other.name) (pos s.0.name)) l.0 f.code s.0 (line_first f.code l.0 s.0 differ s.1) in
     record {
       text = w ∙ ap decimal (sym t);
       small = subst (λ n. n ≤ 65535) (sym t) n;
@@ -151,7 +152,7 @@ callee_known fs id count names differ takes =
     let z : 0 + id.0 ≡ id.0 = omega arith in
     let p : first_named 0 (heads_in fs) f.name ≡ Some (callee_in id count) =
     first_named_at f.name 0 id.0 fs f (function_first fs id f differ s)
-        ∙ (ap (λ k. Some (callee_in (record { 0 = k }) f.params)) z ∙ ap (λ k. Some (callee_in id k)) takes.2) in
+    ∙ (ap (λ k. Some (callee_in (record { 0 = k }) f.params)) z ∙ ap (λ k. Some (callee_in id k)) takes.2) in
     record {
       name = subst IsName (sym t) n;
       short = subst (λ w. nat_lt 32 (length w) ≡ false) (sym t) (name_short f.name n);
@@ -218,9 +219,13 @@ instr_known fs f k (instrs.Op dest e next) h w = (k.reg dest h.0, expr_known fs 
 instr_known fs f k (instrs.Cond test then_to else_to) h w = (operand_known fs f k test h.0 w, k.label then_to h.1, k.label else_to h.2)
 instr_known fs f k (instrs.Call dest callee args next) h w =
     let within_all : Every (IsOperandWithin (length f.regs)) args = every_of_all (IsOperandWithin (length f.regs)) args h.2 in
-    let written_all : Every IsOperandWritten args = every_of_all IsOperandWritten args w in
-    (k.reg dest h.0, k.callee callee (length args) h.1,
-        every_both (IsOperandWithin (length f.regs)) IsOperandWritten (OperandKnown f) (operand_known fs f k) args within_all written_all, k.label next h.3)
+    let written_all : Every IsOperandWritten args = every_of_all IsOperandWritten args w in (
+      k.reg dest h.0,
+      k.callee callee (length args) h.1,
+      every_both (IsOperandWithin (length f.regs)) IsOperandWritten (OperandKnown f)
+          (operand_known fs f k) args within_all written_all,
+      k.label next h.3,
+    )
 instr_known fs f k (instrs.Return value) h w = operand_known fs f k value h w
 instr_known fs f k (instrs.Print value next) h w = (operand_known fs f k value h.0 w, k.label next h.1)
 instr_known fs f k (instrs.Load dest address next) h w = (k.reg dest h.0, operand_known fs f k address h.1 w, k.label next h.2)
@@ -252,7 +257,7 @@ function_known fs f names differ fine written =
     let Written : Line → Type 0 = λ line. IsInstrWritten line.instr in
     let Known : Line → Type 0 = λ line. InstrKnown fs f line.instr in
     let instructions : Every Known f.code = every_both Fine Written Known (λ line h w. instr_known fs f k line.instr h w) f.code
-        (every_of_all Fine f.code fine.instructions) (every_of_all Written f.code written.instructions) in
+    (every_of_all Fine f.code fine.instructions) (every_of_all Written f.code written.instructions) in
     record {
       name = written.name;
       registers = every_of_all IsName f.regs written.registers;

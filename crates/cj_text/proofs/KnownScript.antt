@@ -69,7 +69,7 @@ param_known fs id param f k h =
     let n : IsName s.0 = every_at IsName f.regs param s.0 k.known.registers s.1 in
     let first : IsFirst (λ p. bytes_eq p s.0) param (take f.params f.regs) s.0 =
     first_in_front (λ p. bytes_eq p s.0) param f.params f.regs s.0 h
-        (first_of_differing (λ (name : List ℕ). name) bytes_eq bytes_eq-Decides param f.regs s.0 fine.registers_differ s.1) in
+    (first_of_differing (λ (name : List ℕ). name) bytes_eq bytes_eq-Decides param f.regs s.0 fine.registers_differ s.1) in
     record {
       name = subst IsName (sym t) n;
       short = subst (λ w. nat_lt 32 (length w) ≡ false) (sym t) (name_short s.0 n);
@@ -93,9 +93,9 @@ cond_known fs id label f line k at is =
     let n : label_in_number (slice_get fs id.0) label ≡ line.name = ap (λ (o : Option Function). label_in_number o label) k.at ∙ ap number_at at in
     let w : label_in (slice_get fs id.0) label ≡ decimal line.name = ap (λ (o : Option Function). label_in o label) k.at ∙ ap number_text at in
     let first : IsFirst (λ (other : Line). int_eq (pos other.name) (pos line.name)) label.0 f.code line = line_first f.code label.0 line fine.labels_differ at
-        in
-    let both : (line.name ≤ 65535) × InstrKnown fs f line.instr = every_at (λ (line : Line). (line.name ≤ 65535) × InstrKnown fs f line.instr) f.code label.0
-        line k.known.lines at in
+    in
+    let both : (line.name ≤ 65535)
+    × InstrKnown fs f line.instr = every_at (λ (line : Line). (line.name ≤ 65535) × InstrKnown fs f line.instr) f.code label.0 line k.known.lines at in
     record {
       text = w ∙ ap decimal (sym n);
       small = subst (λ m. m ≤ 65535) (sym n) both.0;

@@ -1,6 +1,6 @@
 -- Items one by one, the first that passes a test, and items that differ from the earlier ones.
-use Rattle.std.proofs.Common.{◌≡◌, ◌∙◌, sym, ap, refl, subst, ℕ, zero, suc, ◌+◌, Bool, true, false, cond, List, [], ◌∷◌, ◌++◌, map, arith, append_assoc,
-    append-nil, All}
+use Rattle.std.proofs.Common.{◌≡◌, ◌∙◌, sym, ap, refl, subst, ℕ, zero, suc, ◌+◌, Bool, true, false, cond, List, [], ◌∷◌, ◌++◌, map, arith, append_assoc}
+use Rattle.std.proofs.Common.{append-nil, All}
 use Rattle.std.specs.Prelude.{Option, Some, slice_get, ◌≢◌, ⊤, position}
 use Rattle.std.specs.Bool.{Decides}
 use Rattle.std.specs.List.{list_any, position_from, find}
@@ -114,9 +114,11 @@ apart_more key (e ∷ es) x xs h k = (h.0.1, apart_more key es x xs h.1 k)
 new_behind : {A B : Type 0} (key : A → B) (eq : B → B → Bool) → ((a b : B) → Decides (eq a b) (a ≡ b)) → (earlier : List B) (xs : List A) →
     AreApart key earlier xs → AllDifferBy key xs → AreNew key eq earlier xs
 new_behind key eq decides earlier [] h k = tt
-new_behind key eq decides earlier (x ∷ xs) h k =
-    (none_equal key eq decides earlier x xs h, new_behind key eq decides (earlier ++ key x ∷ []) xs (apart_more key earlier x xs h (differ_head key x xs k))
-        (differ_tail key x xs k))
+new_behind key eq decides earlier (x ∷ xs) h k = (
+  none_equal key eq decides earlier x xs h,
+  new_behind key eq decides (earlier ++ key x ∷ []) xs (apart_more key earlier x xs h (differ_head key x xs k))
+      (differ_tail key x xs k),
+)
 
 pub new_of_differing : {A B : Type 0} (key : A → B) (eq : B → B → Bool) → ((a b : B) → Decides (eq a b) (a ≡ b)) → (xs : List A) → AllDifferBy key xs →
     AreNew key eq [] xs
@@ -127,6 +129,6 @@ pub new_split : {A B : Type 0} (key : A → B) (eq : B → B → Bool) (earlier 
     AreNew key eq earlier xs × AreNew key eq (earlier ++ map key xs) ys
 new_split {A} {B} key eq earlier [] ys h = (tt, subst (λ (es : List B). AreNew key eq es ys) (sym (append-nil earlier)) h)
 new_split {A} {B} key eq earlier (x ∷ xs) ys h =
-    let r : AreNew key eq (earlier ++ key x ∷ []) xs × AreNew key eq ((earlier ++ key x ∷ []) ++ map key xs) ys = new_split key eq
-        (earlier ++ key x ∷ []) xs ys h.1 in
+    let r : AreNew key eq (earlier ++ key x ∷ []) xs
+    × AreNew key eq ((earlier ++ key x ∷ []) ++ map key xs) ys = new_split key eq (earlier ++ key x ∷ []) xs ys h.1 in
     ((h.0, r.0), subst (λ (es : List B). AreNew key eq es ys) (append_assoc earlier (key x ∷ []) (map key xs)) r.1)

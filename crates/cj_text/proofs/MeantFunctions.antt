@@ -1,6 +1,6 @@
 -- The trees of a well-formed program's functions mean these functions, and have no offence.
-use Rattle.std.proofs.Common.{◌≡◌, ◌∙◌, sym, ap, refl, subst, ℕ, ℤ, pos, suc, ◌+◌, ◌<◌, ◌≤◌, false, List, [], ◌∷◌, ◌++◌, length, map, take, drop, arith,
-    length-append, length-take}
+use Rattle.std.proofs.Common.{◌≡◌, ◌∙◌, sym, ap, refl, subst, ℕ, ℤ, pos, suc, ◌+◌, ◌<◌, ◌≤◌, false, List, [], ◌∷◌, ◌++◌, length, map, take, drop, arith}
+use Rattle.std.proofs.Common.{length-append, length-take}
 use Rattle.std.specs.Prelude.{◌==◌, ◌||◌, not, nat_le}
 use Rattle.std.specs.List.{list_any}
 use Rattle.std.specs.Ordering.{int_eq}
@@ -24,17 +24,17 @@ use Rattle.cj_grammar.specs.Reading.{offends_if, each_offends}
 use Rattle.cj_reader.specs.Scopes.{Head, scope_of}
 use Rattle.cj_reader.specs.Operands.{is_long, is_line_number}
 use Rattle.cj_reader.specs.Instructions.{instr_offences}
-use Rattle.cj_reader.specs.Functions.{name_offences, name_tokens, names_offences, texts_of, function_name, other_names, param_tokens, other_tokens, head_of,
-    registers_of, head_offences, line_number, number_offences, line_offences, line_of, numbers_of, lines_offences, lines_of, function_head, function_scope,
-    function_offences, function_of}
+use Rattle.cj_reader.specs.Functions.{name_offences, name_tokens, names_offences, texts_of, function_name, other_names, param_tokens, other_tokens, head_of}
+use Rattle.cj_reader.specs.Functions.{registers_of, head_offences, line_number, number_offences, line_offences, line_of, numbers_of, lines_offences, lines_of}
+use Rattle.cj_reader.specs.Functions.{function_head, function_scope, function_offences, function_of}
 use Rattle.cj_reader.specs.Meaning.{all_functions, heads_of, program_offences, program_of}
 use Rattle.cj_text.specs.Written.{IsName}
 use Rattle.cj_text.proofs.Chunks.{name_token, number_token}
 use Rattle.cj_text.proofs.Lists.{Every, every_split, AreNew, new_of_differing, new_split}
 use Rattle.cj_text.proofs.Known.{InstrKnown, FunctionKnown, name_short, numbers, head_in, heads_in, values_differ}
 use Rattle.cj_text.proofs.MeantInstructions.{none, unless, same_two, same_three, known_scope, instr_fine, instr_same}
-use Rattle.cj_text.proofs.Trees.{each_line, instr_tree, line_tree, lines_tree, next_name, names_tree, others_tree, head_tree, fun_end, fun_tree, fun_trees,
-    funs_tree}
+use Rattle.cj_text.proofs.Trees.{each_line, instr_tree, line_tree, lines_tree, next_name, names_tree, others_tree, head_tree, fun_end, fun_tree, fun_trees}
+use Rattle.cj_text.proofs.Trees.{funs_tree}
 
 -- ---- counts
 
@@ -67,7 +67,7 @@ line_fine : (fs : List Function) (f : Function) (earlier : List ℤ) (l rest : �
 unfolding rule.line line_tree line_offences
 line_fine fs f earlier l rest line k room new =
     none (number_offences earlier (number_token l (pos line.name))) (instr_offences (known_scope fs f) (instr_tree fs f l line.instr))
-        (number_fine earlier l line.name rest k.0 room new) (instr_fine fs f l line.instr k.1)
+    (number_fine earlier l line.name rest k.0 room new) (instr_fine fs f l line.instr k.1)
 
 number_is : (fs : List Function) (f : Function) (l : ℕ) (line : Line) → (line_number (line_tree fs f l line)).number ≡ pos line.name
 unfolding rule.line line_tree line_number
@@ -84,7 +84,7 @@ code_fine fs f earlier l (line ∷ code) k room new =
     let more : each_offends (line_offences (known_scope fs f)) (λ t. (line_number t).number) (earlier ++ pos line.name ∷ []) rest ≡ [] =
     code_fine fs f (earlier ++ pos line.name ∷ []) (next_line l) code k.1 (one_more earlier (pos line.name) (length code) 256 room) new.1 in
     none (line_offences (known_scope fs f) earlier t)
-        (each_offends (line_offences (known_scope fs f)) (λ t. (line_number t).number) (earlier ++ (line_number t).number ∷ []) rest)
+    (each_offends (line_offences (known_scope fs f)) (λ t. (line_number t).number) (earlier ++ (line_number t).number ∷ []) rest)
     (line_fine fs f earlier (next_line l) (length code) line k.0 room new.0)
     (ap (λ z. each_offends (line_offences (known_scope fs f)) (λ t. (line_number t).number) (earlier ++ z ∷ []) rest) number ∙ more)
 
@@ -114,7 +114,7 @@ lines_fine fs f l k =
     let few : length f.code ≤ 256 = fine.few_labels in
     let room : length {A = ℤ} [] + length f.code ≤ 256 = omega arith in
     code_fine fs f [] l f.code k.lines room
-        (new_of_differing (λ (line : Line). pos line.name) int_eq Decides-int_eq f.code (values_differ f.code fine.labels_differ))
+    (new_of_differing (λ (line : Line). pos line.name) int_eq Decides-int_eq f.code (values_differ f.code fine.labels_differ))
 
 lines_same : (fs : List Function) (f : Function) (l : ℕ) → FunctionKnown fs f → lines_of (known_scope fs f) (lines_tree fs f l f.code) ≡ f.code
 unfolding rule.lines lines_tree lines_of
@@ -127,7 +127,7 @@ name_fine : (limit : ℕ) (earlier : List (List ℕ)) (l rest : ℕ) (name : Lis
 name_fine limit earlier l rest name h room new =
     let t : Lexeme = name_token l name in
     none _ _ (unless (is_long t || nat_le limit (length earlier)) t TooMany
-        (or_from (is_long t) (nat_le limit (length earlier)) (name_short name h) (has_room earlier rest limit room)))
+    (or_from (is_long t) (nat_le limit (length earlier)) (name_short name h) (has_room earlier rest limit room)))
     (unless (list_any (λ other. bytes_eq other name) earlier) t NameTwice new)
 
 names_fine : (limit : ℕ) (earlier : List (List ℕ)) (l : ℕ) (names : List (List ℕ)) → Every IsName names → length earlier + length names ≤ limit →
@@ -175,8 +175,8 @@ others_are l f = others_tokens l (drop f.params f.regs)
 
 registers_same : (l : ℕ) (f : Function) → registers_of (head_tree l f) ≡ f.regs
 registers_same l f =
-    same_two (λ (xs ys : List (List ℕ)). xs ++ ys) (ap texts_of (params_are l f) ∙ texts_same l (take f.params f.regs))
-        (ap texts_of (others_are l f) ∙ texts_same l (drop f.params f.regs)) ∙ take-append-drop f.params f.regs
+    same_two (λ (xs ys : List (List ℕ)). xs ++ ys) (ap texts_of (params_are l f) ∙ texts_same l (take f.params f.regs)) (ap texts_of (others_are l f)
+    ∙ texts_same l (drop f.params f.regs)) ∙ take-append-drop f.params f.regs
 
 length_front : (n : ℕ) (xs : List (List ℕ)) → n ≤ length xs → length (take n xs) ≡ n
 length_front n xs h = omega (arith, length-take n xs)
@@ -185,7 +185,7 @@ params_same : (fs : List Function) (l : ℕ) (f : Function) → FunctionKnown fs
 params_same fs l f k =
     let fine : IsFunctionFine fs f = k.fine in
     ap (λ (ts : List Lexeme). length ts) (params_are l f)
-        ∙ (length-map (take f.params f.regs) (name_token l) ∙ length_front f.params f.regs fine.params_are_registers)
+    ∙ (length-map (take f.params f.regs) (name_token l) ∙ length_front f.params f.regs fine.params_are_registers)
 
 head_same : (fs : List Function) (l : ℕ) (f : Function) → FunctionKnown fs f → head_of (head_tree l f) ≡ head_in f
 head_same fs l f k =
@@ -198,14 +198,14 @@ head_fine fs earlier l rest f k room new =
     let front : List (List ℕ) = take f.params f.regs in
     let back : List (List ℕ) = drop f.params f.regs in
     let all : front ++ back ≡ f.regs = take-append-drop f.params f.regs in
-    let named : Every IsName front × Every IsName back = every_split IsName front back
-        (subst (λ (names : List (List ℕ)). Every IsName names) (sym all) k.registers) in
+    let named : Every IsName front
+    × Every IsName back = every_split IsName front back (subst (λ (names : List (List ℕ)). Every IsName names) (sym all) k.registers) in
     let news : AreNew (λ (name : List ℕ). name) bytes_eq [] f.regs = new_of_differing (λ (name : List ℕ). name) bytes_eq bytes_eq-Decides f.regs
-        fine.registers_differ in
+    fine.registers_differ in
     let split : AreNew (λ (name : List ℕ). name) bytes_eq [] front
-        × AreNew (λ (name : List ℕ). name) bytes_eq ([] ++ map (λ (name : List ℕ). name) front) back =
+    × AreNew (λ (name : List ℕ). name) bytes_eq ([] ++ map (λ (name : List ℕ). name) front) back =
     new_split (λ (name : List ℕ). name) bytes_eq [] front back
-        (subst (λ (names : List (List ℕ)). AreNew (λ (name : List ℕ). name) bytes_eq [] names) (sym all) news) in
+    (subst (λ (names : List (List ℕ)). AreNew (λ (name : List ℕ). name) bytes_eq [] names) (sym all) news) in
     let few : f.params ≤ 8 = fine.few_params in
     let n : length front ≡ f.params = length_front f.params f.regs fine.params_are_registers in
     let room_front : length {A = List ℕ} [] + length front ≤ 8 = omega arith in
@@ -213,14 +213,14 @@ head_fine fs earlier l rest f k room new =
     let few_all : length f.regs ≤ 32 = fine.few_registers in
     let room_back : length front + length back ≤ 32 = omega arith in
     let first : name_offences 64 earlier (function_name (head_tree l f)) ≡ [] = ap (name_offences 64 earlier) (name_is l f)
-        ∙ name_fine 64 earlier l rest f.name k.name room new in
+    ∙ name_fine 64 earlier l rest f.name k.name room new in
     let second : names_offences 8 [] (param_tokens (head_tree l f)) ≡ [] = ap (names_offences 8 []) (params_are l f)
-        ∙ names_fine 8 [] l front named.0 room_front split.0 in
+    ∙ names_fine 8 [] l front named.0 room_front split.0 in
     let texts : texts_of (param_tokens (head_tree l f)) ≡ front = ap texts_of (params_are l f) ∙ texts_same l front in
     let third : names_offences 32 (texts_of (param_tokens (head_tree l f))) (other_tokens (head_tree l f)) ≡ [] =
     same_two (λ (es : List (List ℕ)) (ts : List Lexeme). names_offences 32 es ts) texts (others_are l f)
-        ∙ names_fine 32 front l back named.1 room_back
-        (subst (λ (es : List (List ℕ)). AreNew (λ (name : List ℕ). name) bytes_eq es back) (identity front) split.1) in
+    ∙ names_fine 32 front l back named.1 room_back
+    (subst (λ (es : List (List ℕ)). AreNew (λ (name : List ℕ). name) bytes_eq es back) (identity front) split.1) in
     none _ _ first (none _ _ second third)
   where
     identity : (xs : List (List ℕ)) → map (λ (name : List ℕ). name) xs ≡ xs
@@ -247,23 +247,28 @@ function_fine fs earlier l rest f k room new =
     let last : Lexeme = fixed terminal.CloseBrace (fun_end l f) in
     let some : (length (numbers_of body) == 0) ≡ false = ap (λ n. n == 0) (length_numbers fs l f) ∙ some_lines (length f.code) fine.has_entry in
     let code : lines_offences (function_scope (heads_in fs) (head_tree l f) body) body ≡ [] = ap (λ s. lines_offences s body) (scope_same fs l f)
-        ∙ lines_fine fs f l k in
+    ∙ lines_fine fs f l k in
     none (head_offences earlier (head_tree l f)) (lines_offences (function_scope (heads_in fs) (head_tree l f) body) body
-        ++ offends_if (length (numbers_of body) == 0) last NoEntry)
+    ++ offends_if (length (numbers_of body) == 0) last NoEntry)
     (head_fine fs earlier l rest f k room new)
     (none (lines_offences (function_scope (heads_in fs) (head_tree l f) body) body) (offends_if (length (numbers_of body) == 0) last NoEntry) code
-        (unless (length (numbers_of body) == 0) last NoEntry some))
+    (unless (length (numbers_of body) == 0) last NoEntry some))
 
 function_same : (fs : List Function) (l : ℕ) (f : Function) → FunctionKnown fs f → function_of (heads_in fs) (fun_tree fs l f) ≡ f
 unfolding rule.fun fun_tree function_of
 function_same fs l f k =
     let body : Tree rule.lines = lines_tree fs f l f.code in
     let code : lines_of (function_scope (heads_in fs) (head_tree l f) body) body ≡ f.code = ap (λ s. lines_of s body) (scope_same fs l f)
-        ∙ lines_same fs f l k in
-    ap (λ (name : List ℕ). let new : Function = record { name = name; params = length (param_tokens (head_tree l f)); regs = registers_of (head_tree l f);
-        code = lines_of (function_scope (heads_in fs) (head_tree l f) body) body } in new) (ap (λ (t : Lexeme). t.text) (name_is l f))
-    ∙ same_three (λ (params : ℕ) (regs : List (List ℕ)) (lines : List Line). let new : Function = record { name = f.name; params = params; regs = regs;
-        code = lines } in new) (params_same fs l f k) (registers_same l f) code
+    ∙ lines_same fs f l k in
+    ap (λ (name : List ℕ). let new : Function = record {
+      name = name;
+      params = length (param_tokens (head_tree l f));
+      regs = registers_of
+          (head_tree l f);
+      code = lines_of (function_scope (heads_in fs) (head_tree l f) body) body;
+    } in new) (ap (λ (t : Lexeme). t.text) (name_is l f))
+    ∙ same_three (λ (params : ℕ) (regs : List (List ℕ)) (lines : List Line). let new : Function = record
+    { name = f.name; params = params; regs = regs; code = lines } in new) (params_same fs l f k) (registers_same l f) code
 
 head_of_fun : (fs : List Function) (l : ℕ) (f : Function) → function_head (fun_tree fs l f) ≡ head_tree l f
 unfolding rule.fun fun_tree function_head
@@ -279,7 +284,7 @@ heads_same : (fs : List Function) (l : ℕ) (xs : List Function) → Every (Func
 heads_same fs l [] k = refl
 heads_same fs l (f ∷ more) k =
     same_two (λ (x : Head) (xs : List Head). x ∷ xs) (ap (λ (t : Tree rule.head). head_of t) (head_of_fun fs l f) ∙ head_same fs l f k.0)
-        (heads_same fs (next_line (fun_end l f)) more k.1)
+    (heads_same fs (next_line (fun_end l f)) more k.1)
 
 functions_same : (fs : List Function) (l : ℕ) (xs : List Function) → Every (FunctionKnown fs) xs → map (function_of (heads_in fs)) (fun_trees fs l xs) ≡ xs
 functions_same fs l [] k = refl
@@ -294,11 +299,11 @@ functions_fine fs earlier l (f ∷ more) k room new =
     let t : Tree rule.fun = fun_tree fs l f in
     let rest : List (Tree rule.fun) = fun_trees fs (next_line (fun_end l f)) more in
     none (function_offences (heads_in fs) earlier t)
-        (each_offends (function_offences (heads_in fs)) (λ t. (function_name (function_head t)).text) (earlier ++ (function_name (function_head t)).text ∷ [])
-        rest)
+    (each_offends (function_offences (heads_in fs)) (λ t. (function_name (function_head t)).text) (earlier ++ (function_name (function_head t)).text
+    ∷ []) rest)
     (function_fine fs earlier l (length more) f k.0 room new.0)
     (ap (λ name. each_offends (function_offences (heads_in fs)) (λ t. (function_name (function_head t)).text) (earlier ++ name ∷ []) rest) (fun_name fs l f)
-        ∙ functions_fine fs (earlier ++ f.name ∷ []) (next_line (fun_end l f)) more k.1 (one_more earlier f.name (length more) 64 room) new.1)
+    ∙ functions_fine fs (earlier ++ f.name ∷ []) (next_line (fun_end l f)) more k.1 (one_more earlier f.name (length more) 64 room) new.1)
 
 -- ---- programs
 
@@ -317,7 +322,7 @@ unfolding program_of
 program_same f more k =
     ap (λ (fs : List Function). let p : Program = record { functions = fs } in p)
     (same_two (λ (hs : List Head) (ts : List (Tree rule.fun)). map (function_of hs) ts) (heads_are f more k) (all_are (f ∷ more) f more)
-        ∙ functions_same (f ∷ more) 1 (f ∷ more) k)
+    ∙ functions_same (f ∷ more) 1 (f ∷ more) k)
 
 pub program_fine : (f : Function) (more : List Function) → Every (FunctionKnown (f ∷ more)) (f ∷ more) → length (f ∷ more) ≤ 64 →
     AllDifferBy (λ f. f.name) (f ∷ more) → program_offences (funs_tree (f ∷ more) f more) ≡ []
@@ -325,5 +330,5 @@ unfolding program_offences
 program_fine f more k few differ =
     let room : length {A = List ℕ} [] + length (f ∷ more) ≤ 64 = omega arith in
     same_two (λ (hs : List Head) (ts : List (Tree rule.fun)). each_offends (function_offences hs) (λ t. (function_name (function_head t)).text) [] ts)
-        (heads_are f more k) (all_are (f ∷ more) f more)
+    (heads_are f more k) (all_are (f ∷ more) f more)
     ∙ functions_fine (f ∷ more) [] 1 (f ∷ more) k room (new_of_differing (λ (g : Function). g.name) bytes_eq bytes_eq-Decides (f ∷ more) differ)

@@ -23,11 +23,11 @@ use Rattle.cj_grammar.specs.Rules as rule
 use Rattle.cj_grammar.specs.Alternatives.{of_instr, of_binary}
 use Rattle.cj_grammar.specs.Reading.{offends_if, missing}
 use Rattle.cj_reader.specs.Scopes.{Scope, name_place, number_place, scope_of}
-use Rattle.cj_reader.specs.Operands.{is_long, is_line_number, register_offences, register_of, label_offences, label_of, target_offences, target_of,
-    operand_offences, operand_of, binary_of, expr_offences, expr_of}
-use Rattle.cj_reader.specs.Instructions.{arguments_offences, arguments_of, argument_count, count_offences, callee_offences, callee_of, nop_offences, nop_of,
-    op_offences, op_of, cond_offences, cond_of, call_offences, call_of, return_offences, return_of, print_offences, print_of, load_offences, load_of,
-    store_offences, store_of, fail_offences, fail_of, instr_offences, instr_of}
+use Rattle.cj_reader.specs.Operands.{is_long, is_line_number, register_offences, register_of, label_offences, label_of, target_offences, target_of}
+use Rattle.cj_reader.specs.Operands.{operand_offences, operand_of, binary_of, expr_offences, expr_of}
+use Rattle.cj_reader.specs.Instructions.{arguments_offences, arguments_of, argument_count, count_offences, callee_offences, callee_of, nop_offences, nop_of}
+use Rattle.cj_reader.specs.Instructions.{op_offences, op_of, cond_offences, cond_of, call_offences, call_of, return_offences, return_of, print_offences}
+use Rattle.cj_reader.specs.Instructions.{print_of, load_offences, load_of, store_offences, store_of, fail_offences, fail_of, instr_offences, instr_of}
 use Rattle.cj_printer.specs.Canonical.{reg_text, function_text}
 use Rattle.cj_text.proofs.Chunks.{name_token, number_token, text_token}
 use Rattle.cj_text.proofs.Lists.{Every}
@@ -76,7 +76,7 @@ label_fine fs f l label k =
     let t : Lexeme = number_token l (pos n) in
     none (offends_if (not (is_line_number (pos n))) t Range) (missing (number_place (numbers f.code) (pos n)) t NoLabel)
     (unless (not (is_line_number (pos n))) t Range (not_from_true (is_line_number (pos n)) k.range))
-        (there (number_place (numbers f.code) (pos n)) label.0 t NoLabel k.place)
+    (there (number_place (numbers f.code) (pos n)) label.0 t NoLabel k.place)
 
 label_same : (fs : List Function) (f : Function) (l : ℕ) (label : Label) → LabelKnown f label →
     label_of (known_scope fs f) (number_token l (pos (label_number f label))) ≡ label
@@ -147,7 +147,7 @@ more_fine : (fs : List Function) (f : Function) (l : ℕ) (args : List Operand) 
 more_fine fs f l [] k = refl
 more_fine fs f l (a ∷ args) k =
     none (operand_offences (known_scope fs f) (operand_tree l f a))
-        (flat_map (λ (t : Next). operand_offences (known_scope fs f) t.1) (map (next_operand l f) args)) (operand_fine fs f l a k.0) (more_fine fs f l args k.1)
+    (flat_map (λ (t : Next). operand_offences (known_scope fs f) t.1) (map (next_operand l f) args)) (operand_fine fs f l a k.0) (more_fine fs f l args k.1)
 
 more_same : (fs : List Function) (f : Function) (l : ℕ) (args : List Operand) → Every (OperandKnown f) args →
     map (λ (t : Next). operand_of (known_scope fs f) t.1) (map (next_operand l f) args) ≡ args
@@ -160,7 +160,7 @@ unfolding rule.operands rule.more_operands arguments_tree arguments_offences
 arguments_fine fs f l [] k = refl
 arguments_fine fs f l (a ∷ args) k =
     none (operand_offences (known_scope fs f) (operand_tree l f a))
-        (flat_map (λ (t : Next). operand_offences (known_scope fs f) t.1) (map (next_operand l f) args)) (operand_fine fs f l a k.0) (more_fine fs f l args k.1)
+    (flat_map (λ (t : Next). operand_offences (known_scope fs f) t.1) (map (next_operand l f) args)) (operand_fine fs f l a k.0) (more_fine fs f l args k.1)
 
 arguments_same : (fs : List Function) (f : Function) (l : ℕ) (args : List Operand) → Every (OperandKnown f) args →
     arguments_of (known_scope fs f) (arguments_tree l f args) ≡ args
@@ -218,7 +218,7 @@ instr_same fs f l (instrs.Cond test then_to else_to) k =
     same_three instrs.Cond (operand_same fs f l test k.0) (target_same fs f l then_to k.1) (label_same fs f l else_to k.2)
 instr_same fs f l (instrs.Call dest callee args next) k =
     same_four instrs.Call (register_same fs f l dest k.0) (callee_same fs f l callee (length args) k.1) (arguments_same fs f l args k.2)
-        (target_same fs f l next k.3)
+    (target_same fs f l next k.3)
 instr_same fs f l (instrs.Return value) k = ap instrs.Return (operand_same fs f l value k)
 instr_same fs f l (instrs.Print value next) k = same_two instrs.Print (operand_same fs f l value k.0) (target_same fs f l next k.1)
 instr_same fs f l (instrs.Load dest address next) k =

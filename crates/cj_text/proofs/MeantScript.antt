@@ -27,10 +27,11 @@ use Rattle.cj_grammar.specs.Grammar.{Tree}
 use Rattle.cj_grammar.specs.Rules as rule
 use Rattle.cj_grammar.specs.Reading.{offends_if, missing, highest, each_offends}
 use Rattle.cj_printer.specs.Canonical.{function_text, reg_in}
-use Rattle.cj_script.specs.Meaning.{function_named, id_named, parameter_named, line_numbered, is_cond, long_name, out_of_range, function_offences, other_count,
-    callee_offences, limit_offences, begun_offences, cells_of, limit_of, begun_of, call_limit, spent_by, call_offences, calls_offences, call_of, calls_of,
-    parameter_offences, parameter_of, no_cond, label_offences, label_of, guess_offences, guess_of, cold_offences, edge_of, cold_of, warm_offences, warm_of,
-    setup_offences, setup_of, setups_offences, setups_of, script_offences, script_of}
+use Rattle.cj_script.specs.Meaning.{function_named, id_named, parameter_named, line_numbered, is_cond, long_name, out_of_range, function_offences, other_count}
+use Rattle.cj_script.specs.Meaning.{callee_offences, limit_offences, begun_offences, cells_of, limit_of, begun_of, call_limit, spent_by, call_offences}
+use Rattle.cj_script.specs.Meaning.{calls_offences, call_of, calls_of, parameter_offences, parameter_of, no_cond, label_offences, label_of, guess_offences}
+use Rattle.cj_script.specs.Meaning.{guess_of, cold_offences, edge_of, cold_of, warm_offences, warm_of, setup_offences, setup_of, setups_offences, setups_of}
+use Rattle.cj_script.specs.Meaning.{script_offences, script_of}
 use Rattle.cj_script.proofs.CallsReads.{spent_more}
 use Rattle.cj_text.proofs.Chunks.{name_token, number_token}
 use Rattle.cj_text.proofs.Lists.{Every}
@@ -60,7 +61,7 @@ name_fine l fs id f k =
     let t : Lexeme = named l fs id in
     highest_none (long_name t ++ missing (function_named fs t) t NoFunction)
     (none (long_name t) (missing (function_named fs t) t NoFunction) (unless (nat_lt 32 (length t.text)) t TooMany k.short)
-        (there (function_named fs t) f t NoFunction k.found))
+    (there (function_named fs t) f t NoFunction k.found))
 
 id_same : (l : ℕ) (fs : List Function) (id : FunId) (f : Function) → FunKnown fs id f → id_named fs (named l fs id) ≡ id
 id_same l fs id f k = ap (λ (o : Option ℕ). let new : FunId = record { 0 = unwrap_or o 0 } in new) k.place
@@ -74,7 +75,7 @@ param_fine l fs id param f k p =
     ap (λ (o : Option Function). parameter_offences o t) k.found
     ∙ highest_none (long_name t ++ missing (parameter_named f t) t NoRegister)
     (none (long_name t) (missing (parameter_named f t) t NoRegister) (unless (nat_lt 32 (length t.text)) t TooMany p.short)
-        (there (parameter_named f t) param t NoRegister p.place))
+    (there (parameter_named f t) param t NoRegister p.place))
 
 param_same : (l : ℕ) (fs : List Function) (id : FunId) (param : ℕ) (f : Function) → FunKnown fs id f → ParamKnown fs id param f →
     parameter_of (function_named fs (named l fs id)) (name_token l (reg_in (slice_get fs id.0) param)) ≡ param
@@ -106,14 +107,14 @@ setup_fine : (fs : List Function) (l : ℕ) (x : Setup) → SetupKnown fs x → 
 unfolding rule.setup rule.guess_setup rule.cold_setup rule.warm_setup setup_tree setup_offences guess_offences cold_offences warm_offences
 setup_fine fs l (setups.Guess id param value) k =
     none (function_offences fs (named l fs id)) (parameter_offences (function_named fs (named l fs id)) (name_token l (reg_in (slice_get fs id.0) param)))
-        (name_fine l fs id k.0 k.1) (param_fine l fs id param k.0 k.1 k.2)
+    (name_fine l fs id k.0 k.1) (param_fine l fs id param k.0 k.1 k.2)
 setup_fine fs l (setups.Cold id label edge) k =
     none (function_offences fs (named l fs id))
-        (label_offences (function_named fs (named l fs id)) (number_token l (pos (label_in_number (slice_get fs id.0) label)))) (name_fine l fs id k.0 k.2)
-        (cond_fine l fs id label k.0 k.1 k.2 k.3)
+    (label_offences (function_named fs (named l fs id)) (number_token l (pos (label_in_number (slice_get fs id.0) label)))) (name_fine l fs id k.0 k.2)
+    (cond_fine l fs id label k.0 k.1 k.2 k.3)
 setup_fine fs l (setups.Warm id level) k =
     none (function_offences fs (named l fs id)) (out_of_range (pos 1) (pos 3) (number_token l (pos level))) (name_fine l fs id k.0 k.1)
-        (range_fine l 1 3 level k.2 k.3)
+    (range_fine l 1 3 level k.2 k.3)
 
 setup_same : (fs : List Function) (l : ℕ) (x : Setup) → SetupKnown fs x → setup_of fs (setup_tree fs l x) ≡ x
 unfolding rule.setup rule.guess_setup rule.cold_setup rule.warm_setup setup_tree setup_of guess_of cold_of warm_of
@@ -129,7 +130,7 @@ setups_fine fs earlier l [] k = refl
 setups_fine fs earlier l (x ∷ xs) k =
     let t : Tree rule.setup = setup_tree fs (next_line l) x in
     none (setup_offences fs t)
-        (each_offends (λ done line. setup_offences fs line) (setup_of fs) (earlier ++ setup_of fs t ∷ []) (each_line (setup_tree fs) (next_line l) xs))
+    (each_offends (λ done line. setup_offences fs line) (setup_of fs) (earlier ++ setup_of fs t ∷ []) (each_line (setup_tree fs) (next_line l) xs))
     (setup_fine fs (next_line l) x k.0) (setups_fine fs (earlier ++ setup_of fs t ∷ []) (next_line l) xs k.1)
 
 setups_same : (fs : List Function) (l : ℕ) (xs : List Setup) → Every (SetupKnown fs) xs → map (setup_of fs) (each_line (setup_tree fs) l xs) ≡ xs
@@ -146,7 +147,7 @@ callee_fine l fs id f count k e =
     highest_none (function_offences fs t ++ other_count (function_named fs t) count t)
     (none (function_offences fs t) (other_count (function_named fs t) count t) (name_fine l fs id f k)
     (ap (λ (o : Option Function). other_count o count t) k.found
-        ∙ unless (not (f.params == count)) t Arguments (not_from_true (f.params == count) (eq-eqb f.params count e))))
+    ∙ unless (not (f.params == count)) t Arguments (not_from_true (f.params == count) (eq-eqb f.params count e))))
 
 within_sum : (spent n : ℕ) → spent + n ≤ 4000000 → int_lt (pos 4000000) (pos spent +ℤ pos n) ≡ false
 within_sum spent n h = grind (arith, nat_tests)
@@ -156,7 +157,7 @@ limit_fine l spent n h k s =
     let t : Lexeme = number_token l (pos n) in
     highest_none (offends_if (int_lt (pos 4000000) (pos spent +ℤ pos n)) t TooMany ++ out_of_range (pos 1) (pos 1000000) t)
     (none (offends_if (int_lt (pos 4000000) (pos spent +ℤ pos n)) t TooMany) (out_of_range (pos 1) (pos 1000000) t)
-        (unless (int_lt (pos 4000000) (pos spent +ℤ pos n)) t TooMany (within_sum spent n s)) (range_fine l 1 1000000 n h k))
+    (unless (int_lt (pos 4000000) (pos spent +ℤ pos n)) t TooMany (within_sum spent n s)) (range_fine l 1 1000000 n h k))
 
 begun_fine : (fs : List Function) (l spent : ℕ) (call : ScriptCall) → CallKnown fs call → spent + call.limit ≤ 4000000 →
     begun_offences fs (pos spent) (begun_tree fs l call) ≡ []
@@ -164,10 +165,10 @@ unfolding rule.begun rule.numbers begun_tree begun_offences
 begun_fine fs l spent call k s =
     let count : k.callee.params ≡ length (map (number_leaf l) call.args) = k.count ∙ sym (length-map call.args (number_leaf l)) in
     none (callee_offences fs (length (map (number_leaf l) call.args)) (named l fs call.function))
-        (out_of_range (pos 0) (pos 65536) (number_token l (pos call.cells)) ++ limit_offences (pos spent) (number_token l (pos call.limit)))
+    (out_of_range (pos 0) (pos 65536) (number_token l (pos call.cells)) ++ limit_offences (pos spent) (number_token l (pos call.limit)))
     (callee_fine l fs call.function k.callee (length (map (number_leaf l) call.args)) k.known count)
     (none (out_of_range (pos 0) (pos 65536) (number_token l (pos call.cells))) (limit_offences (pos spent) (number_token l (pos call.limit)))
-        (range_fine l 0 65536 call.cells (omega arith) k.few_cells) (limit_fine l spent call.limit k.some_turn k.few_turns s))
+    (range_fine l 0 65536 call.cells (omega arith) k.few_cells) (limit_fine l spent call.limit k.some_turn k.few_turns s))
 
 values_same : (l : ℕ) (values : List ℤ) → map (λ arg. arg.token.number) (map (number_leaf l) values) ≡ values
 values_same l [] = refl
@@ -177,7 +178,7 @@ begun_same : (fs : List Function) (l : ℕ) (call : ScriptCall) → CallKnown fs
 unfolding rule.begun rule.numbers begun_tree begun_of cells_of limit_of
 begun_same fs l call k =
     same_two (λ (id : FunId) (args : List ℤ). let new : ScriptCall = record { function = id; args = args; cells = call.cells; limit = call.limit } in new)
-        (id_same l fs call.function k.callee k.known) (values_same l call.args)
+    (id_same l fs call.function k.callee k.known) (values_same l call.args)
 
 call_same : (fs : List Function) (l : ℕ) (call : ScriptCall) → CallKnown fs call → call_of fs (call_tree fs l call) ≡ call
 unfolding rule.script_call call_tree call_of
@@ -250,7 +251,7 @@ script_fine p l s k ks few sum =
     let few_all : length {A = Tree rule.script_call} [] + length s.calls ≤ 256 = omega arith in
     let spent : 0 + limits s.calls ≤ 4000000 = omega arith in
     none (each_offends (λ done line. setup_offences fs line) (setup_of fs) [] (each_line (setup_tree fs) (next_line l) s.setups))
-        (each_offends (call_offences fs) (λ call. call) [] (each_line (call_tree fs) (last_line (next_line l) s.setups) s.calls))
+    (each_offends (call_offences fs) (λ call. call) [] (each_line (call_tree fs) (last_line (next_line l) s.setups) s.calls))
     (setups_fine fs [] (next_line l) s.setups k) (calls_fine fs (last_line (next_line l) s.setups) 0 [] s.calls ks nothing_spent few_all spent)
 
 pub script_same : (p : Program) (l : ℕ) (s : Script) → Every (SetupKnown p.functions) s.setups → Every (CallKnown p.functions) s.calls →
@@ -258,4 +259,4 @@ pub script_same : (p : Program) (l : ℕ) (s : Script) → Every (SetupKnown p.f
 unfolding rule.script rule.setups rule.script_calls script_tree script_of setups_of calls_of
 script_same p l s k ks =
     same_two (λ (xs : List Setup) (ys : List ScriptCall). let new : Script = record { setups = xs; calls = ys } in new)
-        (setups_same p.functions (next_line l) s.setups k) (calls_same p.functions (last_line (next_line l) s.setups) s.calls ks)
+    (setups_same p.functions (next_line l) s.setups k) (calls_same p.functions (last_line (next_line l) s.setups) s.calls ks)

@@ -48,8 +48,8 @@ past ts functions lines last k =
 means_of : (functions : Tree funs) (lines : Tree script) (i : Input) → program_offences functions ++ script_offences (program_of functions) lines ≡ [] →
     i.checked ≡ program_of functions → i.script ≡ script_of (program_of functions) lines → Means functions lines i
 means_of functions lines i fine p s =
-    let both : (program_offences functions ≡ []) × (script_offences (program_of functions) lines ≡ []) = none_of (program_offences functions)
-        (script_offences (program_of functions) lines) fine in
+    let both : (program_offences functions ≡ [])
+    × (script_offences (program_of functions) lines ≡ []) = none_of (program_offences functions) (script_offences (program_of functions) lines) fine in
     record {
       program_fine = both.0;
       program = p;
@@ -65,25 +65,26 @@ reads_none es x y ts e h = rw (e, h) refl
 program_read : (ts : List Lexeme) (functions : Tree funs) (lines : Tree script) (last : Lexeme) (i : Input) → Parts ts functions lines last →
     Means functions lines i → program_at ts ≡ Ok (i.checked, leaves script lines ++ last ∷ [])
 program_read ts functions lines last i k m =
-    past ts functions lines last k ∙ reads_none (program_offences functions) (program_of functions) i.checked (leaves script lines ++ last ∷ []) m.program_fine
-        m.program
+    past ts functions lines last k
+    ∙ reads_none (program_offences functions) (program_of functions) i.checked (leaves script lines ++ last ∷ []) m.program_fine m.program
 
 script_read : (functions : Tree funs) (lines : Tree script) (last : Lexeme) (i : Input) → is_terminal End last ≡ true → Means functions lines i →
     script_at i.checked.functions (leaves script lines ++ last ∷ []) ≡ Ok (i.script, last ∷ [])
 script_read functions lines last i is_end m =
-    script_reads i.checked lines last [] is_end ∙ reads_none (script_offences i.checked lines) (script_of i.checked lines) i.script
-        (last ∷ []) m.script_fine m.script
+    script_reads i.checked lines last [] is_end
+    ∙ reads_none (script_offences i.checked lines) (script_of i.checked lines) i.script (last ∷ []) m.script_fine m.script
 
 -- other functions and lines of the same tokens mean the same
 same_meaning : (ts : List Lexeme) (f g : Tree funs) (x y : Tree script) (a b : Lexeme) (i : Input) → Parts ts f x a → Means f x i → Parts ts g y b → Means g y i
 same_meaning ts f g x y a b i k m l =
     let us : List Lexeme = leaves script x ++ a ∷ [] in
     let functions : IsMeaning (program_offences g) (program_of g) i.checked (leaves script y ++ b ∷ []) us = reads_ok (program_offences g)
-        (program_of g) i.checked (leaves script y ++ b ∷ []) us (sym (past ts g y b l) ∙ program_read ts f x a i k m) in
-    let lines : script_at i.checked.functions us ≡ reads (script_offences i.checked y) (script_of i.checked y)
-        (b ∷ []) = script_known i.checked i.checked.functions us y b [] refl functions.rest l.is_end in
+    (program_of g) i.checked (leaves script y ++ b ∷ []) us (sym (past ts g y b l) ∙ program_read ts f x a i k m) in
+    let lines : script_at i.checked.functions us
+    ≡ reads (script_offences i.checked y) (script_of i.checked y) (b ∷ []) = script_known i.checked i.checked.functions us y b [] refl functions.rest
+    l.is_end in
     let rest : IsMeaning (script_offences i.checked y) (script_of i.checked y) i.script (b ∷ []) (a ∷ []) = reads_ok (script_offences i.checked y)
-        (script_of i.checked y) i.script (b ∷ []) (a ∷ []) (sym lines ∙ script_read f x a i k.is_end m) in
+    (script_of i.checked y) i.script (b ∷ []) (a ∷ []) (sym lines ∙ script_read f x a i k.is_end m) in
     record {
       program_fine = functions.fine;
       program = functions.value;
@@ -97,13 +98,15 @@ same_meaning ts f g x y a b i k m l =
 abbrev AgreesWith : Input → Tree input → Type 0
 AgreesWith i t = (input_offences t ≡ []) × (i ≡ input_of t)
 
-agrees : (g : Tree funs) (y : Tree script) (i : Input) → Means g y i →
-    (program_offences g ++ script_offences (program_of g) y ≡ []) × (i ≡ record { checked = program_of g; script = script_of (program_of g) y })
+agrees : (g : Tree funs) (y : Tree script) (i : Input) → Means g y i → (program_offences g ++ script_offences (program_of g) y ≡ [])
+    × (i ≡ record { checked = program_of g; script = script_of (program_of g) y })
 agrees g y i m =
     let fine : script_offences (program_of g) y ≡ [] = ap (λ (q : Program). script_offences q y) (sym m.program) ∙ m.script_fine in
-    let lines : i.script ≡ script_of (program_of g) y = m.script ∙ ap (λ (q : Program). script_of q y) m.program in
-    (none (program_offences g) (script_offences (program_of g) y) m.program_fine fine,
-        same_two (λ (q : Program) (s : Script). let new : Input = record { checked = q; script = s } in new) m.program lines)
+    let lines : i.script ≡ script_of (program_of g) y = m.script ∙ ap (λ (q : Program). script_of q y) m.program in (
+      none (program_offences g) (script_offences (program_of g) y) m.program_fine fine,
+      same_two
+          (λ (q : Program) (s : Script). let new : Input = record { checked = q; script = s } in new) m.program lines,
+    )
 
 -- the parts of the tree that a text's reading has
 all_agree : (ts : List Lexeme) (i : Input) (t u : Tree input) → leaves input t ≡ ts → AgreesWith i t → leaves input u ≡ ts → AgreesWith i u
@@ -126,9 +129,11 @@ only_reading bytes i spells (Err r) (inr second) =
 fits_of : (ts : List Lexeme) (i : Input) (t : Tree input) → leaves input t ≡ ts → AgreesWith i t → IsWellFormed i.checked × FitsScript i.checked i.script
 unfolding input input_offences input_of
 fits_of ts i (f, (x, a)) is m =
-    let n : Means f x i = means_of f x i m.0 (ap (λ (j : Input). j.checked) m.1) (ap (λ (j : Input). j.script) m.1) in
-    (subst IsWellFormed (sym n.program) (fine_program.program_fine f n.program_fine),
-        script_fits i.checked i.checked.functions (leaves script x ++ a.token ∷ []) (a.token ∷ []) i.script refl (script_read f x a.token i a.is n))
+    let n : Means f x i = means_of f x i m.0 (ap (λ (j : Input). j.checked) m.1) (ap (λ (j : Input). j.script) m.1) in (
+      subst IsWellFormed (sym n.program) (fine_program.program_fine f n.program_fine),
+      script_fits i.checked i.checked.functions (leaves script x ++ a.token
+          ∷ []) (a.token ∷ []) i.script refl (script_read f x a.token i a.is n),
+    )
 
 pub read_well_formed : (bytes : List ℕ) (i : Input) → Spells bytes i → IsWellFormed i.checked
 read_well_formed bytes i spells = (fits_of (lexemes_of bytes) i spells.tree spells.tokens (spells.fine, spells.meaning)).0

@@ -59,19 +59,19 @@ no_read a ts r h = cc
 pub same_program : (bytes : List ℕ) (p again : Program) (ts us : List Lexeme) → SpellsProgram bytes p → ts ≡ lexemes_of bytes →
     ((rest : List Lexeme) (past : GoesPast ts rest) → Gives (Ok again) us (reads (program_offences past.tree) (program_of past.tree) rest)) → again ≡ p
 same_program bytes p again ts us spells is read =
-    let g : reads (program_offences spells.tree) (program_of spells.tree) (spells.last ∷ []) ≡ Ok (again, us) = read (spells.last ∷ [])
-        (past_program bytes p ts spells is) in
-    let h : reads (program_offences spells.tree) (program_of spells.tree) (spells.last ∷ []) ≡ Ok (program_of spells.tree, spells.last ∷ []) = ap
-        (λ es. reads es (program_of spells.tree) (spells.last ∷ [])) spells.fine in
+    let g : reads (program_offences spells.tree) (program_of spells.tree) (spells.last ∷ [])
+    ≡ Ok (again, us) = read (spells.last ∷ []) (past_program bytes p ts spells is) in
+    let h : reads (program_offences spells.tree) (program_of spells.tree) (spells.last ∷ [])
+    ≡ Ok (program_of spells.tree, spells.last ∷ []) = ap (λ es. reads es (program_of spells.tree) (spells.last ∷ [])) spells.fine in
     one_read (program_of spells.tree) again (spells.last ∷ []) us (sym h ∙ g) ∙ sym spells.meaning
 
 pub program_not_refused : (bytes : List ℕ) (p : Program) (r : refusal.Refused) (ts : List Lexeme) → SpellsProgram bytes p → ts ≡ lexemes_of bytes →
     ((rest : List Lexeme) (past : GoesPast ts rest) → Fails (Refused r) (reads (program_offences past.tree) (program_of past.tree) rest)) → ⊥
 program_not_refused bytes p r ts spells is read =
-    let g : reads (program_offences spells.tree) (program_of spells.tree) (spells.last ∷ []) ≡ Err r = read (spells.last ∷ [])
-        (past_program bytes p ts spells is) in
-    let h : reads (program_offences spells.tree) (program_of spells.tree) (spells.last ∷ []) ≡ Ok (program_of spells.tree, spells.last ∷ []) = ap
-        (λ es. reads es (program_of spells.tree) (spells.last ∷ [])) spells.fine in
+    let g : reads (program_offences spells.tree) (program_of spells.tree) (spells.last ∷ [])
+    ≡ Err r = read (spells.last ∷ []) (past_program bytes p ts spells is) in
+    let h : reads (program_offences spells.tree) (program_of spells.tree) (spells.last ∷ [])
+    ≡ Ok (program_of spells.tree, spells.last ∷ []) = ap (λ es. reads es (program_of spells.tree) (spells.last ∷ [])) spells.fine in
     no_read (program_of spells.tree) (spells.last ∷ []) r (sym h ∙ g)
 
 pub fails : (e : ParseError) (r : refusal.Refused) (read : Read Program) → e ≡ Refused r → Fails e read → Fails (Refused r) read

@@ -20,15 +20,15 @@ use Rattle.cj_tokens.specs.declared.terminal.Terminal.TheVariants as terminal
 use Rattle.cj_grammar.specs.Grammar.{leaves, seq, opt}
 use Rattle.cj_grammar.specs.Rules as rule
 use Rattle.cj_printer.specs.Pieces.{Piece, glued, blank, feed, after_comma, listed}
-use Rattle.cj_printer.specs.Canonical.{reg_text, function_text, label_text, operand_text, target_pieces, expr_pieces, callee_pieces, instr_pieces, line_pieces,
-    others_pieces, function_pieces, more_pieces, functions_pieces}
+use Rattle.cj_printer.specs.Canonical.{reg_text, function_text, label_text, operand_text, target_pieces, expr_pieces, callee_pieces, instr_pieces, line_pieces}
+use Rattle.cj_printer.specs.Canonical.{others_pieces, function_pieces, more_pieces, functions_pieces}
 use Rattle.cj_text.specs.Written.{IsName}
-use Rattle.cj_text.proofs.Chunks.{Inside, Chunk, ◌▸◌, ◌▹◌, nothing, nothing_inside, name_token, number_token, name_blank, number_blank, key_blank, mark_blank,
-    text_blank, mark_glued, name_glued, number_glued, key_glued, opened_glued, opened_blank, key_feed, mark_feed, number_feed}
+use Rattle.cj_text.proofs.Chunks.{Inside, Chunk, ◌▸◌, ◌▹◌, nothing, nothing_inside, name_token, number_token, name_blank, number_blank, key_blank, mark_blank}
+use Rattle.cj_text.proofs.Chunks.{text_blank, mark_glued, name_glued, number_glued, key_glued, opened_glued, opened_blank, key_feed, mark_feed, number_feed}
 use Rattle.cj_text.proofs.Lists.{Every, every_split}
 use Rattle.cj_text.proofs.Known.{LabelKnown, OperandKnown, ExprKnown, InstrKnown, FunctionKnown, text_parts}
-use Rattle.cj_text.proofs.Trees.{label_number, each_line, last_line, operand_tree, target_tree, expr_tree, next_operand, arguments_tree, instr_tree, line_tree,
-    lines_tree, next_name, names_tree, others_tree, head_tree, fun_end, fun_tree, fun_trees, funs_end, funs_tree}
+use Rattle.cj_text.proofs.Trees.{label_number, each_line, last_line, operand_tree, target_tree, expr_tree, next_operand, arguments_tree, instr_tree, line_tree}
+use Rattle.cj_text.proofs.Trees.{lines_tree, next_name, names_tree, others_tree, head_tree, fun_end, fun_tree, fun_trees, funs_end, funs_tree}
 
 pub pieces_are : {l m : ℕ} {ps qs : List Piece} {ts : List Lexeme} → ps ≡ qs → Chunk l m ps ts → Chunk l m qs ts
 pieces_are {l} {m} {ps} {qs} {ts} e c = subst (λ (rs : List Piece). Chunk l m rs ts) e c
@@ -92,14 +92,13 @@ arguments_inside l f (a ∷ args) k = operand_inside l f a k.0 ▹ more_argument
 -- `f(a, b) -> n`
 called_chunk : (l : ℕ) (fs : List Function) (f : Function) (callee : FunId) (args : List Operand) (next : Label) → IsName (function_text fs callee) →
     Every (OperandKnown f) args → LabelKnown f next →
-    Chunk l l (callee_pieces fs f callee args ++ target_pieces f next)
-    (name_token l (function_text fs callee) ∷ fixed terminal.OpenParen l
+    Chunk l l (callee_pieces fs f callee args ++ target_pieces f next) (name_token l (function_text fs callee) ∷ fixed terminal.OpenParen l
     ∷ (leaves (opt rule.operands) (arguments_tree l f args) ++ (fixed terminal.CloseParen l ∷ leaves rule.target (target_tree l f next))))
 called_chunk l fs f callee args next name known to =
     pieces_are (ap (λ (ps : List Piece). blank (function_text fs callee)
-        ∷ glued (codes "(") ∷ ps) (sym (append_assoc (listed (map (operand_text f) args)) (glued (codes ")") ∷ []) (target_pieces f next))))
+    ∷ glued (codes "(") ∷ ps) (sym (append_assoc (listed (map (operand_text f) args)) (glued (codes ")") ∷ []) (target_pieces f next))))
     (name_blank l (function_text fs callee) name ▸ opened_glued terminal.OpenParen refl (λ rest. refl) (λ rest. refl)
-        (arguments_inside l f args known ▹ (mark_glued l terminal.CloseParen refl (λ rest. refl) ▸ target_chunk l f next to)))
+    (arguments_inside l f args known ▹ (mark_glued l terminal.CloseParen refl (λ rest. refl) ▸ target_chunk l f next to)))
 
 -- ---- instructions
 
@@ -110,22 +109,22 @@ unfolding rule.instr rule.nop_instr rule.op_instr rule.cond_instr rule.call_inst
 instr_chunk l fs f (instrs.Nop next) k = key_blank l terminal.Nop refl ▸ target_chunk l f next k
 instr_chunk l fs f (instrs.Op dest e next) k =
     key_blank l terminal.Op refl ▸ name_blank l (reg_text f dest) k.0.name ▸ mark_blank l terminal.Equals refl ▸ expr_chunk l f e k.1 ▸ target_chunk l f next
-        k.2
+    k.2
 instr_chunk l fs f (instrs.Cond test then_to else_to) k =
     key_blank l terminal.Cond refl ▸ operand_chunk l f test k.0 ▸ target_chunk l f then_to k.1 ▸ mark_glued l terminal.Comma refl
-        (λ rest. refl) ▸ label_chunk l f else_to k.2
+    (λ rest. refl) ▸ label_chunk l f else_to k.2
 instr_chunk l fs f (instrs.Call dest callee args next) k =
     key_blank l terminal.Call refl ▸ name_blank l (reg_text f dest) k.0.name ▸ mark_blank l terminal.Equals refl ▸ called_chunk l fs f callee args next
-        k.1.name k.2 k.3
+    k.1.name k.2 k.3
 instr_chunk l fs f (instrs.Return value) k = key_blank l terminal.Return refl ▸ operand_chunk l f value k
 instr_chunk l fs f (instrs.Print value next) k = key_blank l terminal.Print refl ▸ operand_chunk l f value k.0 ▸ target_chunk l f next k.1
 instr_chunk l fs f (instrs.Load dest address next) k =
     key_blank l terminal.Load refl ▸ name_blank l (reg_text f dest) k.0.name ▸ mark_blank l terminal.Equals refl ▸ opened_blank terminal.OpenBracket refl
-        (λ rest. refl) (operand_inside l f address k.1 ▹ (mark_glued l terminal.CloseBracket refl (λ rest. refl) ▸ target_chunk l f next k.2))
+    (λ rest. refl) (operand_inside l f address k.1 ▹ (mark_glued l terminal.CloseBracket refl (λ rest. refl) ▸ target_chunk l f next k.2))
 instr_chunk l fs f (instrs.Store address value next) k =
     key_blank l terminal.Store refl ▸ opened_blank terminal.OpenBracket refl (λ rest. refl)
-        (operand_inside l f address k.0 ▹
-        (mark_glued l terminal.CloseBracket refl (λ rest. refl) ▸ mark_blank l terminal.Equals refl ▸ operand_chunk l f value k.1 ▸ target_chunk l f next k.2))
+    (operand_inside l f address k.0 ▹
+    (mark_glued l terminal.CloseBracket refl (λ rest. refl) ▸ mark_blank l terminal.Equals refl ▸ operand_chunk l f value k.1 ▸ target_chunk l f next k.2))
 instr_chunk l fs f (instrs.Fail text) k = key_blank l terminal.Fail refl ▸ text_blank l text (text_parts text k).0
 
 -- ---- lines
@@ -142,7 +141,7 @@ line_chunk : (fs : List Function) (f : Function) (line : Line) → (line.name �
 unfolding rule.line line_tree line_pieces
 line_chunk fs f line k l =
     number_feed l (pos line.name) (small_value line.name k.0) ▸ mark_glued (next_line l) terminal.Colon refl (λ rest. refl) ▸ instr_chunk
-        (next_line l) fs f line.instr k.1
+    (next_line l) fs f line.instr k.1
 
 every_line : (fs : List Function) (f : Function) (code : List Line) → Every (λ line. (line.name ≤ 65535) × InstrKnown fs f line.instr) code →
     Every (λ line. (l : ℕ) → Chunk l (next_line l) (line_pieces fs f line) (leaves rule.line (line_tree fs f (next_line l) line))) code
@@ -180,8 +179,8 @@ regroup a b c d = ap (λ x. a ++ x) (sym (append_assoc b c d)) ∙ sym (append_a
 function_is : (fs : List Function) (f : Function) →
     blank f.name ∷ glued
     (codes "(") ∷ (listed (take f.params f.regs)
-    ++ (others_pieces (drop f.params f.regs) ++ (glued (codes ")") ∷ blank (codes "{") ∷ (flat_map (line_pieces fs f) f.code ++ feed (codes "}") ∷ [])))) ≡
-    function_pieces fs f
+    ++ (others_pieces (drop f.params f.regs) ++ (glued (codes ")") ∷ blank (codes "{") ∷ (flat_map (line_pieces fs f) f.code ++ feed (codes "}") ∷ []))))
+    ≡ function_pieces fs f
 unfolding function_pieces
 function_is fs f = simp append_assoc
 
@@ -189,9 +188,9 @@ function_is fs f = simp append_assoc
 abbrev pub fun_tokens : List Function → ℕ → Function → List Lexeme
 fun_tokens fs l f =
     name_token l f.name ∷ fixed terminal.OpenParen l
-        ∷ ((leaves (opt rule.names) (names_tree l (take f.params f.regs))
-        ++ (leaves (opt (seq (rule.one terminal.Semicolon) rule.names)) (others_tree l (drop f.params f.regs)) ++ fixed terminal.CloseParen l ∷ []))
-        ++ (fixed terminal.OpenBrace l ∷ (leaves rule.lines (lines_tree fs f l f.code) ++ fixed terminal.CloseBrace (fun_end l f) ∷ [])))
+    ∷ ((leaves (opt rule.names) (names_tree l (take f.params f.regs))
+    ++ (leaves (opt (seq (rule.one terminal.Semicolon) rule.names)) (others_tree l (drop f.params f.regs)) ++ fixed terminal.CloseParen l ∷ []))
+    ++ (fixed terminal.OpenBrace l ∷ (leaves rule.lines (lines_tree fs f l f.code) ++ fixed terminal.CloseBrace (fun_end l f) ∷ [])))
 
 pub fun_leaves : (fs : List Function) (l : ℕ) (f : Function) → leaves rule.fun (fun_tree fs l f) ≡ fixed terminal.Fun l ∷ fun_tokens fs l f
 unfolding rule.fun rule.head fun_tree head_tree
@@ -201,18 +200,18 @@ function_chunk : (fs : List Function) (f : Function) → FunctionKnown fs f → 
 function_chunk fs f k l =
     let registers : take f.params f.regs ++ drop f.params f.regs ≡ f.regs = take-append-drop f.params f.regs in
     let named : Every IsName (take f.params f.regs) × Every IsName (drop f.params f.regs) = every_split IsName (take f.params f.regs) (drop f.params f.regs)
-        (subst (λ (names : List (List ℕ)). Every IsName names) (sym registers) k.registers) in
+    (subst (λ (names : List (List ℕ)). Every IsName names) (sym registers) k.registers) in
     let param_tokens : List Lexeme = leaves (opt rule.names) (names_tree l (take f.params f.regs)) in
     let other_tokens : List Lexeme = leaves (opt (seq (rule.one terminal.Semicolon) rule.names)) (others_tree l (drop f.params f.regs)) in
-    let body_tokens : List Lexeme = fixed terminal.OpenBrace l ∷ (leaves rule.lines (lines_tree fs f l f.code) ++ fixed terminal.CloseBrace (fun_end l f) ∷ [])
-        in
+    let body_tokens : List Lexeme = fixed terminal.OpenBrace l
+    ∷ (leaves rule.lines (lines_tree fs f l f.code) ++ fixed terminal.CloseBrace (fun_end l f) ∷ []) in
     pieces_are (function_is fs f)
     (tokens_are (ap (λ (ts : List Lexeme). name_token l f.name ∷ fixed terminal.OpenParen l ∷ ts)
-        (regroup param_tokens other_tokens (fixed terminal.CloseParen l ∷ []) body_tokens))
+    (regroup param_tokens other_tokens (fixed terminal.CloseParen l ∷ []) body_tokens))
     (name_blank l f.name k.name ▸ opened_glued terminal.OpenParen refl (λ rest. refl) (λ rest. refl)
-        (names_inside l (take f.params f.regs) named.0 ▹
-        (others_chunk l (drop f.params f.regs) named.1 ▸ mark_glued l terminal.CloseParen refl (λ rest. refl) ▸ mark_blank l terminal.OpenBrace refl ▸
-        code_chunk fs f k.lines l ▸ mark_feed (last_line l f.code) terminal.CloseBrace refl))))
+    (names_inside l (take f.params f.regs) named.0 ▹
+    (others_chunk l (drop f.params f.regs) named.1 ▸ mark_glued l terminal.CloseParen refl (λ rest. refl) ▸ mark_blank l terminal.OpenBrace refl ▸
+    code_chunk fs f k.lines l ▸ mark_feed (last_line l f.code) terminal.CloseBrace refl))))
 
 more_chunk : (fs : List Function) (more : List Function) → Every (FunctionKnown fs) more → (l : ℕ) →
     Chunk l (funs_end l more) (flat_map (more_pieces fs) more) (flat_map (leaves rule.fun) (fun_trees fs (next_line l) more))

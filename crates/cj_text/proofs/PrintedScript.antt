@@ -42,11 +42,11 @@ unfolding rule.setup rule.guess_setup rule.cold_setup rule.warm_setup setup_tree
 setup_chunk fs (setups.Guess id param value) k l =
     let n : ℕ = next_line l in
     key_feed l terminal.Guess refl ▸ name_blank n (function_text fs id) k.1.name ▸ name_blank n (reg_in (slice_get fs id.0) param) k.2.name ▸ number_blank n
-        value k.3
+    value k.3
 setup_chunk fs (setups.Cold id label edge) k l =
     let n : ℕ = next_line l in
     key_feed l terminal.Cold refl ▸ name_blank n (function_text fs id) k.2.name ▸ number_of_label n (label_in (slice_get fs id.0) label)
-        (label_in_number (slice_get fs id.0) label) k.3.text k.3.small ▸ edge_chunk n edge
+    (label_in_number (slice_get fs id.0) label) k.3.text k.3.small ▸ edge_chunk n edge
 setup_chunk fs (setups.Warm id level) k l =
     let n : ℕ = next_line l in
     key_feed l terminal.Warm refl ▸ name_blank n (function_text fs id) k.1.name ▸ number_blank n (pos level) (level_value level k.3)
@@ -56,10 +56,9 @@ values_chunk : (l : ℕ) (values : List ℤ) → Every IsValue values →
 values_chunk l [] h = nothing l
 values_chunk l (z ∷ values) h = number_blank l z h.0 ▸ values_chunk l values h.1
 
-call_is : (fs : List Function) (call : ScriptCall) →
-    feed (codes "call") ∷ blank (function_text fs call.function)
-    ∷ (map value_piece call.args ++ (blank (codes "memory") ∷ blank (decimal call.cells) ∷ blank (codes "limit") ∷ blank (decimal call.limit) ∷ [])) ≡
-    call_pieces fs call
+call_is : (fs : List Function) (call : ScriptCall) → feed (codes "call") ∷ blank (function_text fs call.function)
+    ∷ (map value_piece call.args ++ (blank (codes "memory") ∷ blank (decimal call.cells) ∷ blank (codes "limit") ∷ blank (decimal call.limit) ∷ []))
+    ≡ call_pieces fs call
 unfolding call_pieces
 call_is fs call = simp append_assoc
 
@@ -69,9 +68,9 @@ unfolding rule.script_call rule.begun rule.numbers call_tree begun_tree
 call_chunk fs call k l =
     let n : ℕ = next_line l in
     pieces_are (call_is fs call)
-        (key_feed l terminal.Call refl ▸ name_blank n (function_text fs call.function) k.known.name ▸ values_chunk n call.args k.values ▸ key_blank n
-        terminal.Memory refl ▸ number_blank n (pos call.cells) (cells_value call.cells k.few_cells) ▸ key_blank n terminal.Limit refl ▸ number_blank n
-        (pos call.limit) (limit_value call.limit k.few_turns))
+    (key_feed l terminal.Call refl ▸ name_blank n (function_text fs call.function) k.known.name ▸ values_chunk n call.args k.values ▸ key_blank n
+    terminal.Memory refl ▸ number_blank n (pos call.cells) (cells_value call.cells k.few_cells) ▸ key_blank n terminal.Limit refl ▸ number_blank n
+    (pos call.limit) (limit_value call.limit k.few_turns))
 
 every_setup : (fs : List Function) (xs : List Setup) → Every (SetupKnown fs) xs →
     Every (λ x. (l : ℕ) → Chunk l (next_line l) (setup_pieces fs x) (leaves rule.setup (setup_tree fs (next_line l) x))) xs
@@ -88,5 +87,5 @@ pub script_chunk : (fs : List Function) (s : Script) → Every (SetupKnown fs) s
 unfolding rule.script rule.setups rule.script_calls script_tree script_pieces
 script_chunk fs s k ks l =
     key_feed l terminal.Calls refl ▸ lines_chunk (setup_pieces fs) (setup_tree fs) (leaves rule.setup) s.setups (every_setup fs s.setups k)
-        (next_line l) ▸ lines_chunk (call_pieces fs) (call_tree fs) (leaves rule.script_call) s.calls (every_call fs s.calls ks)
-        (last_line (next_line l) s.setups)
+    (next_line l) ▸ lines_chunk (call_pieces fs) (call_tree fs) (leaves rule.script_call) s.calls (every_call fs s.calls ks)
+    (last_line (next_line l) s.setups)

@@ -26,8 +26,8 @@ use Rattle.cj_text.proofs.PrintedProgram.{functions_inside}
 use Rattle.cj_text.proofs.Trees.{end_token, fun_end, funs_end, funs_tree}
 
 program_tokens : (f : Function) (more : List Function) → Every (FunctionKnown (f ∷ more)) (f ∷ more) →
-    leaves rule.funs (funs_tree (f ∷ more) f more) ++ end_token (next_line (funs_end (fun_end 1 f) more))
-    ∷ [] ≡ lexemes_of (pieces_text (functions_pieces (f ∷ more) (f ∷ more)) ++ 10 ∷ [])
+    leaves rule.funs (funs_tree (f ∷ more) f more) ++ end_token (next_line (funs_end (fun_end 1 f) more)) ∷ []
+    ≡ lexemes_of (pieces_text (functions_pieces (f ∷ more) (f ∷ more)) ++ 10 ∷ [])
 program_tokens f more k =
     let fs : List Function = f ∷ more in
     let pieces : List Piece = functions_pieces fs fs in

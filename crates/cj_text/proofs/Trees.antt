@@ -109,26 +109,59 @@ instr_tree fs f l (instrs.Nop next) = inl (key terminal.Nop l, target_tree l f n
 instr_tree fs f l (instrs.Op dest e next) =
     inr (inl (key terminal.Op l, (name_leaf l (reg_text f dest), (key terminal.Equals l, (expr_tree l f e, target_tree l f next)))))
 instr_tree fs f l (instrs.Cond test then_to else_to) =
-    inr (inr (inl (key terminal.Cond l,
-        (operand_tree l f test, (target_tree l f then_to, (key terminal.Comma l, number_leaf l (pos (label_number f else_to))))))))
+    inr (inr (inl (
+      key terminal.Cond
+          l,
+      (operand_tree l f test, (target_tree l f then_to, (key terminal.Comma l, number_leaf l (pos (label_number f else_to))))),
+    )))
 instr_tree fs f l (instrs.Call dest callee args next) =
-    inr (inr (inr (inl (key terminal.Call l,
-        (name_leaf l (reg_text f dest),
-        (key terminal.Equals l,
-        (name_leaf l (function_text fs callee), (key terminal.OpenParen l, (arguments_tree l f args, (key terminal.CloseParen l, target_tree l f next))))))))))
+    inr (inr (inr (inl (
+      key terminal.Call
+          l,
+      (
+        name_leaf l (reg_text f dest),
+        (
+          key terminal.Equals
+              l,
+          (
+            name_leaf l (function_text fs callee),
+            (
+              key terminal.OpenParen
+                  l,
+              (arguments_tree l f args, (key terminal.CloseParen l, target_tree l f next)),
+            ),
+          ),
+        ),
+      ),
+    ))))
 instr_tree fs f l (instrs.Return value) = inr (inr (inr (inr (inl (key terminal.Return l, operand_tree l f value)))))
 instr_tree fs f l (instrs.Print value next) =
     inr (inr (inr (inr (inr (inl (key terminal.Print l, (operand_tree l f value, target_tree l f next)))))))
 instr_tree fs f l (instrs.Load dest address next) =
     inr (inr (inr (inr (inr
-        (inr (inl (key terminal.Load l,
-        (name_leaf l (reg_text f dest),
-        (key terminal.Equals l, (key terminal.OpenBracket l, (operand_tree l f address, (key terminal.CloseBracket l, target_tree l f next))))))))))))
+    (inr (inl (
+      key terminal.Load
+          l,
+      (
+        name_leaf l (reg_text f dest),
+        (
+          key terminal.Equals
+              l,
+          (key terminal.OpenBracket l, (operand_tree l f address, (key terminal.CloseBracket l, target_tree l f next))),
+        ),
+      ),
+    )))))))
 instr_tree fs f l (instrs.Store address value next) =
     inr (inr (inr (inr (inr
-        (inr (inr (inl (key terminal.Store l,
-        (key terminal.OpenBracket l,
-        (operand_tree l f address, (key terminal.CloseBracket l, (key terminal.Equals l, (operand_tree l f value, target_tree l f next)))))))))))))
+    (inr (inr (inl (
+      key terminal.Store
+          l,
+      (
+        key terminal.OpenBracket
+            l,
+        (operand_tree l f address, (key terminal.CloseBracket l, (key terminal.Equals l, (operand_tree l f value, target_tree l f next)))),
+      ),
+    ))))))))
 instr_tree fs f l (instrs.Fail text) =
     inr (inr (inr (inr (inr (inr (inr (inr (key terminal.Fail l, text_leaf l text))))))))
 
@@ -158,10 +191,14 @@ others_tree l (name ∷ more) = Some (key terminal.Semicolon l, (name_leaf l nam
 
 unfoldable pub head_tree : ℕ → Function → Tree rule.head
 unfolding rule.head
-head_tree l f =
-    (key terminal.Fun l,
-        (name_leaf l f.name,
-        (key terminal.OpenParen l, (names_tree l (take f.params f.regs), (others_tree l (drop f.params f.regs), key terminal.CloseParen l)))))
+head_tree l f = (
+  key terminal.Fun l,
+  (
+    name_leaf l
+        f.name,
+    (key terminal.OpenParen l, (names_tree l (take f.params f.regs), (others_tree l (drop f.params f.regs), key terminal.CloseParen l))),
+  ),
+)
 
 -- the line of a function's `}`
 abbrev pub fun_end : ℕ → Function → ℕ
@@ -208,9 +245,14 @@ setup_tree fs l (setups.Warm id level) =
 
 unfoldable pub begun_tree : List Function → ℕ → ScriptCall → Tree rule.begun
 unfolding rule.begun rule.numbers
-begun_tree fs l call =
-    (name_leaf l (function_text fs call.function),
-        (map (number_leaf l) call.args, (Some (key terminal.Memory l, number_leaf l (pos call.cells)), (key terminal.Limit l, number_leaf l (pos call.limit)))))
+begun_tree fs l call = (
+  name_leaf l (function_text fs call.function),
+  (
+    map
+        (number_leaf l) call.args,
+    (Some (key terminal.Memory l, number_leaf l (pos call.cells)), (key terminal.Limit l, number_leaf l (pos call.limit))),
+  ),
+)
 
 unfoldable pub call_tree : List Function → ℕ → ScriptCall → Tree rule.script_call
 unfolding rule.script_call

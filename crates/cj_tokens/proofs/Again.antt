@@ -1,6 +1,6 @@
 -- What is printed is read again: a token and what may follow it is that token, and then the rest.
-use Rattle.std.proofs.Common.{◌≡◌, ℕ, ℤ, pos, negsuc, zero, suc, ◌+◌, ◌-◌, ◌^◌, ◌<◌, Bool, true, false, cond, List, [], ◌∷◌, ◌++◌, length, take, drop, map,
-    refl, ap, ◌∙◌, arith, rules}
+use Rattle.std.proofs.Common.{◌≡◌, ℕ, ℤ, pos, negsuc, zero, suc, ◌+◌, ◌-◌, ◌^◌, ◌<◌, Bool, true, false, cond, List, [], ◌∷◌, ◌++◌, length, take, drop, map}
+use Rattle.std.proofs.Common.{refl, ap, ◌∙◌, arith, rules}
 use Rattle.std.proofs.Math.Seq.{take-append_seam, drop-append_seam}
 use Rattle.std.proofs.lemmas.Bool.Decides.{nat_tests}
 use Rattle.std.proofs.lemmas.Fmt.{digits_decimal, digits_value-decimal, decimal_nonempty}
@@ -18,9 +18,11 @@ use Rattle.cj_tokens.specs.Printed.{spelling, is_keyword_terminal, is_mark_termi
 use Rattle.cj_tokens.specs.Scan.{Item, items, item_of, size_of, is_start, next_line, lexeme_in}
 use Rattle.cj_tokens.specs.Spellings.{keyword_table, mark_table, word_terminal, begins_number, value, terminal_of, text_of, worth, lexeme_of}
 use Rattle.cj_tokens.specs.declared.terminal.Terminal.{Terminal}
-use Rattle.cj_tokens.specs.declared.terminal.Terminal.TheVariants.{Name, Number, Text, Fun, Nop, Op, Cond, Call, Return, Print, Load, Store, Fail, Neg, Eqz,
-    Calls, Guess, Cold, Then, Else, Warm, Memory, Limit, Events, Begin, Step, Compile, Anchors, Assume, Delay, Const, Inline, When, Never, Keep, OpenParen,
-    CloseParen, OpenBrace, CloseBrace, OpenBracket, CloseBracket, Comma, Semicolon, Colon, Equals, Plus, Minus, Star, Slash, Percent, Less, Arrow}
+use Rattle.cj_tokens.specs.declared.terminal.Terminal.TheVariants.{Name, Number, Text, Fun, Nop, Op, Cond, Call, Return, Print, Load, Store, Fail, Neg, Eqz}
+use Rattle.cj_tokens.specs.declared.terminal.Terminal.TheVariants.{Calls, Guess, Cold, Then, Else, Warm, Memory, Limit, Events, Begin, Step, Compile, Anchors}
+use Rattle.cj_tokens.specs.declared.terminal.Terminal.TheVariants.{Assume, Delay, Const, Inline, When, Never, Keep, OpenParen, CloseParen, OpenBrace}
+use Rattle.cj_tokens.specs.declared.terminal.Terminal.TheVariants.{CloseBrace, OpenBracket, CloseBracket, Comma, Semicolon, Colon, Equals, Plus, Minus, Star}
+use Rattle.cj_tokens.specs.declared.terminal.Terminal.TheVariants.{Slash, Percent, Less, Arrow}
 use Rattle.cj_tokens.proofs.Found.{letter_no_quote, token_next, size_word, size_text}
 use Rattle.cj_tokens.proofs.Tables.{free_is_name}
 use Rattle.cj_ir.proofs.Truths.{not_or}
@@ -50,7 +52,7 @@ pub again : (line : ℕ) (t rest : List ℕ) → begins is_start t ≡ true → 
 again line [] rest s e = cc
 again line (b ∷ bs) rest s e =
     let n : items 0 line 0 (b ∷ (bs ++ rest)) ≡ item_of line 0 (b ∷ (bs ++ rest)) (size_of (b ∷ (bs ++ rest)))
-        ∷ items 0 line (0 + size_of (b ∷ (bs ++ rest))) (drop (size_of (b ∷ (bs ++ rest))) (b ∷ (bs ++ rest))) = token_next line 0 b (bs ++ rest) s in
+    ∷ items 0 line (0 + size_of (b ∷ (bs ++ rest))) (drop (size_of (b ∷ (bs ++ rest))) (b ∷ (bs ++ rest))) = token_next line 0 b (bs ++ rest) s in
     let p : take (length bs) (bs ++ rest) ≡ bs = take-append_seam bs rest in
     let q : drop (length bs) (bs ++ rest) ≡ rest = drop-append_seam bs rest in
     ap (map lexeme_in) n ∙ rw (e, p, q) (ap (λ ts. lexeme_of line (b ∷ bs) ∷ ts) (at_any 0 line (0 + suc (length bs)) 0 rest))
@@ -106,8 +108,8 @@ name_again line w rest h s =
     let t : word_terminal w ≡ Name = free_is_name w f.1 in
     word_again line w rest k.0 k.1 s ∙ rw t refl
 
-word_facts : (k : Terminal) → is_keyword_terminal k ≡ true →
-    (starts_with_letter (spelling k) ≡ true) × (list_all is_letter_or_digit (spelling k) ≡ true) × (word_terminal (spelling k) ≡ k)
+word_facts : (k : Terminal) → is_keyword_terminal k ≡ true → (starts_with_letter (spelling k) ≡ true) × (list_all is_letter_or_digit (spelling k) ≡ true)
+    × (word_terminal (spelling k) ≡ k)
 unfolding keyword_table
 word_facts Fun h = (refl, refl, refl)
 word_facts Nop h = (refl, refl, refl)
@@ -158,8 +160,8 @@ minus_size rest d g = rw (d, g) refl
 
 mark_size : (k : Terminal) (rest : List ℕ) → is_mark_terminal k ≡ true → ends_mark k rest ≡ true → size_of (spelling k ++ rest) ≡ length (spelling k)
 unfolding size_of
-mark_size Minus rest h e = let p : (begins is_ascii_digit rest ≡ false) × (begins is_greater rest ≡ false) = not_or (begins is_ascii_digit rest)
-    (begins is_greater rest) e in minus_size rest p.0 p.1
+mark_size Minus rest h e = let p : (begins is_ascii_digit rest ≡ false)
+    × (begins is_greater rest ≡ false) = not_or (begins is_ascii_digit rest) (begins is_greater rest) e in minus_size rest p.0 p.1
 mark_size OpenParen rest h e = refl
 mark_size CloseParen rest h e = refl
 mark_size OpenBrace rest h e = refl
@@ -247,7 +249,7 @@ text_again line t rest a =
     let l : length (t ++ 34 ∷ []) ≡ suc (length t) = one_more t in
     let e : size_of (34 ∷ ((t ++ 34 ∷ []) ++ rest)) ≡ suc (length (t ++ 34 ∷ [])) = rw (c, l) s in
     let g : lexed line (34 ∷ ((t ++ 34 ∷ []) ++ rest)) ≡ lexeme_of line (34 ∷ (t ++ 34 ∷ []))
-        ∷ lexed line rest = again line (34 ∷ (t ++ 34 ∷ [])) rest refl e in
+    ∷ lexed line rest = again line (34 ∷ (t ++ 34 ∷ [])) rest refl e in
     (rw c at g) ∙ ap (λ x. x ∷ lexed line rest) (quoted_lexeme line t)
 
 -- ---- numbers
@@ -320,9 +322,9 @@ number_again (pos n) line rest h s =
     let b : n < 2 ^ 64 = omega arith in
     let f : nat_le n 9223372036854775807 ≡ true = grind (arith, nat_tests) in
     plain_again line n (decimal n) rest (all_digits (decimal n) (digits_decimal value_is_numeral n b)) (decimal_nonempty n b)
-        (digits_value-decimal value_is_numeral n b) f s
+    (digits_value-decimal value_is_numeral n b) f s
 number_again (negsuc n) line rest h s =
     let b : suc n < 2 ^ 64 = omega arith in
     let f : nat_le (suc n) 9223372036854775808 ≡ true = grind (arith, nat_tests) in
     below_again line n (decimal (suc n)) rest (all_digits (decimal (suc n)) (digits_decimal value_is_numeral (suc n) b)) (decimal_nonempty (suc n) b)
-        (digits_value-decimal value_is_numeral (suc n) b) f s
+    (digits_value-decimal value_is_numeral (suc n) b) f s

@@ -1,6 +1,6 @@
 -- The token that stands next.
-use Rattle.std.proofs.Common.{◌≡◌, ℕ, zero, suc, ◌+◌, ◌-◌, ◌<◌, ◌≤◌, Bool, true, false, cond, List, [], ◌∷◌, length, take, drop, get_or, refl, ap, sym, ◌∙◌,
-    arith, length-drop, drop-drop}
+use Rattle.std.proofs.Common.{◌≡◌, ℕ, zero, suc, ◌+◌, ◌-◌, ◌<◌, ◌≤◌, Bool, true, false, cond, List, [], ◌∷◌, length, take, drop, get_or, refl, ap, sym, ◌∙◌}
+use Rattle.std.proofs.Common.{arith, length-drop, drop-drop}
 use Rattle.std.proofs.lemmas.Bool.Decides.{nat_tests}
 use Rattle.std.proofs.lemmas.Bool.{eqb-true, and_parts}
 use Rattle.std.proofs.lemmas.List.{take_rest, length-take}
@@ -91,8 +91,8 @@ begins_some p [] h = cc
 begins_some p (b ∷ bs) h = omega arith
 
 begins_behind : (p : ℕ → Bool) (n : ℕ) (bs : List ℕ) → begins p (drop n bs) ≡ true → suc n ≤ length bs
-begins_behind p n bs h = let l : length (drop n bs) ≡ length bs - n = length-drop n bs in let s : 1 ≤ length (drop n bs) = begins_some p
-    (drop n bs) h in omega arith
+begins_behind p n bs h = let l : length (drop n bs) ≡ length bs - n = length-drop n bs in let s : 1
+    ≤ length (drop n bs) = begins_some p (drop n bs) h in omega arith
 
 -- the bytes between the quotes of a text
 between : (n : ℕ) (bs : List ℕ) → suc n ≤ length bs → text_of (34 ∷ take (suc n) bs) ≡ take n bs
@@ -140,9 +140,9 @@ size_sized b bs =
     pick bs (is_letter b) _ _ (λ _. sized_run is_letter_or_digit bs) (λ _.
     pick bs (begins_number b bs) _ _ (λ _. sized_run is_ascii_digit bs) (λ _.
     pick bs (is_minus b && begins is_greater bs) _ _ (λ t. sized_some bs 1 (begins_some is_greater bs (and_parts (is_minus b) (begins is_greater bs) t).1))
-        (λ _.
+    (λ _.
     pick bs (is_quote b && is_closed bs) _ _
-        (λ t. sized_some bs (suc (prefix_len is_text_byte bs)) (closed_within bs (and_parts (is_quote b) (is_closed bs) t).1)) (λ _.
+    (λ t. sized_some bs (suc (prefix_len is_text_byte bs)) (closed_within bs (and_parts (is_quote b) (is_closed bs) t).1)) (λ _.
     sized_some bs 0 (omega arith)))))
 
 pub sized : (b : ℕ) (bs : List ℕ) → (k : ℕ) × (size_of (b ∷ bs) ≡ suc k) × (k ≤ length bs)
@@ -188,8 +188,8 @@ well_scanned line (b ∷ bs) = go (is_letter b) (is_quote b) refl refl
 
 -- ---- what stands next is that token, and what is behind it
 
-pub token_next : (line i b : ℕ) (bs : List ℕ) → is_start b ≡ true →
-    items 0 line i (b ∷ bs) ≡ item_of line i (b ∷ bs) (size_of (b ∷ bs)) ∷ items 0 line (i + size_of (b ∷ bs)) (drop (size_of (b ∷ bs)) (b ∷ bs))
+pub token_next : (line i b : ℕ) (bs : List ℕ) → is_start b ≡ true → items 0 line i (b ∷ bs) ≡ item_of line i (b ∷ bs) (size_of (b ∷ bs))
+    ∷ items 0 line (i + size_of (b ∷ bs)) (drop (size_of (b ∷ bs)) (b ∷ bs))
 unfolding items
 token_next line i b bs t =
     let p : (is_line_feed b ≡ false) × ((is_blank b || is_hash b) ≡ false) = not_or (is_line_feed b) (is_blank b || is_hash b) t in
@@ -199,8 +199,8 @@ token_next line i b bs t =
     let f : items k.0 line (i + 1) bs ≡ items 0 line (i + 1 + k.0) (drop k.0 bs) = passed k.0 line (i + 1) bs k.2 in
     let e : i + 1 + k.0 ≡ i + suc k.0 = omega arith in
     let d : drop (size_of (b ∷ bs)) (b ∷ bs) ≡ drop k.0 bs = rw k.1 refl in
-    let g : items (size_of (b ∷ bs) - 1) line (i + 1) bs ≡ items 0 line (i + size_of (b ∷ bs)) (drop (size_of (b ∷ bs)) (b ∷ bs)) = rw (m, d, k.1)
-        (f ∙ rw e refl) in
+    let g : items (size_of (b ∷ bs) - 1) line (i + 1) bs
+    ≡ items 0 line (i + size_of (b ∷ bs)) (drop (size_of (b ∷ bs)) (b ∷ bs)) = rw (m, d, k.1) (f ∙ rw e refl) in
     rw (p.0, q.0, q.1) (ap (λ x. item_of line i (b ∷ bs) (size_of (b ∷ bs)) ∷ x) g)
 
 pub token_not_end : (line b : ℕ) (bs : List ℕ) → is_terminal End (lexeme_of line (take (size_of (b ∷ bs)) (b ∷ bs))) ≡ false
@@ -213,9 +213,8 @@ end_next : (line i : ℕ) (bytes : List ℕ) → items 0 line i [] ≡ items_fro
 unfolding items items_from size_of lexeme_of terminal_of
 end_next line i bytes = refl
 
-from_token : (line i b : ℕ) (bs bytes : List ℕ) → drop i bytes ≡ b ∷ bs →
-    items_from bytes (item_of line i (b ∷ bs) (size_of (b ∷ bs))) ≡ item_of line i (b ∷ bs) (size_of (b ∷ bs))
-    ∷ items 0 line (i + size_of (b ∷ bs)) (drop (size_of (b ∷ bs)) (b ∷ bs))
+from_token : (line i b : ℕ) (bs bytes : List ℕ) → drop i bytes ≡ b ∷ bs → items_from bytes (item_of line i (b ∷ bs) (size_of (b ∷ bs)))
+    ≡ item_of line i (b ∷ bs) (size_of (b ∷ bs)) ∷ items 0 line (i + size_of (b ∷ bs)) (drop (size_of (b ∷ bs)) (b ∷ bs))
 unfolding items_from lexeme_of
 from_token line i b bs bytes e =
     let n : is_terminal End (lexeme_of line (take (size_of (b ∷ bs)) (b ∷ bs))) ≡ false = token_not_end line b bs in

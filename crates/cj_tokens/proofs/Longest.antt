@@ -54,13 +54,13 @@ quoted m bs true h = go (nat_lt (prefix_len is_text_byte bs) m) refl
     over true w h = absurd (omega arith)
     over false w h = refl
 
-    go : (c : Bool) → nat_lt (prefix_len is_text_byte bs) m ≡ c →
-        cond (is_closed (take m bs)) (suc (suc (prefix_len is_text_byte (take m bs)))) 1 ≡ cond (is_closed bs) (suc (suc (prefix_len is_text_byte bs))) 1
+    go : (c : Bool) → nat_lt (prefix_len is_text_byte bs) m ≡ c → cond (is_closed (take m bs)) (suc (suc (prefix_len is_text_byte (take m bs)))) 1
+        ≡ cond (is_closed bs) (suc (suc (prefix_len is_text_byte bs))) 1
     go true e =
         let l : prefix_len is_text_byte bs < m = grind (arith, nat_tests) in
         let r : prefix_len is_text_byte (take m bs) ≡ prefix_len is_text_byte bs = run_front is_text_byte m bs l in
-        let q : begins is_quote (drop (prefix_len is_text_byte bs) (take m bs)) ≡ begins is_quote (drop (prefix_len is_text_byte bs) bs) = begins_later
-            is_quote (prefix_len is_text_byte bs) m bs l in
+        let q : begins is_quote (drop (prefix_len is_text_byte bs) (take m bs))
+        ≡ begins is_quote (drop (prefix_len is_text_byte bs) bs) = begins_later is_quote (prefix_len is_text_byte bs) m bs l in
         rw (r, q) refl
     go false e =
         let l : m ≤ prefix_len is_text_byte bs = grind (arith, nat_tests) in

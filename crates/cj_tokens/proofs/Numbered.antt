@@ -5,10 +5,11 @@ use denote.Enum.Declared.{tag_of}
 use Rattle.cj_tokens.specs.Lexemes.{number_of}
 use Rattle.cj_tokens.specs.contracts.terminal.Terminal.{the_type}
 use Rattle.cj_tokens.specs.declared.terminal.Terminal.{Terminal}
-use Rattle.cj_tokens.specs.declared.terminal.Terminal.TheVariants.{End, BadCharacter, BadNumber, Name, Number, Text, Fun, Nop, Op, Cond, Call, Return, Print,
-    Load, Store, Fail, Neg, Eqz, Calls, Guess, Cold, Then, Else, Warm, Memory, Limit, Events, Begin, Step, Compile, Anchors, Assume, Delay, Const, Inline,
-    When, Never, Keep, OpenParen, CloseParen, OpenBrace, CloseBrace, OpenBracket, CloseBracket, Comma, Semicolon, Colon, Equals, Plus, Minus, Star, Slash,
-    Percent, Less, Arrow}
+use Rattle.cj_tokens.specs.declared.terminal.Terminal.TheVariants.{End, BadCharacter, BadNumber, Name, Number, Text, Fun, Nop, Op, Cond, Call, Return, Print}
+use Rattle.cj_tokens.specs.declared.terminal.Terminal.TheVariants.{Load, Store, Fail, Neg, Eqz, Calls, Guess, Cold, Then, Else, Warm, Memory, Limit, Events}
+use Rattle.cj_tokens.specs.declared.terminal.Terminal.TheVariants.{Begin, Step, Compile, Anchors, Assume, Delay, Const, Inline, When, Never, Keep, OpenParen}
+use Rattle.cj_tokens.specs.declared.terminal.Terminal.TheVariants.{CloseParen, OpenBrace, CloseBrace, OpenBracket, CloseBracket, Comma, Semicolon, Colon}
+use Rattle.cj_tokens.specs.declared.terminal.Terminal.TheVariants.{Equals, Plus, Minus, Star, Slash, Percent, Less, Arrow}
 
 tag_is : (t : Terminal) → tag_of the_type t ≡ number_of t
 tag_is End = refl

@@ -31,8 +31,8 @@ ends_further all count passed h g =
 -- the first token of a text, and the one behind a token of it
 pub first_token : (bytes : List ℕ) (t : Item) → items 0 1 0 bytes ≡ items_from bytes t → IsToken bytes t
 first_token bytes t e =
-    let n : length (items_of bytes) - length (items_from bytes t) ≡ 0 = let m : length (items_of bytes) ≡ length
-        (items_from bytes t) = ap length e in omega arith in
+    let n : length (items_of bytes) - length (items_from bytes t) ≡ 0 = let m : length (items_of bytes)
+    ≡ length (items_from bytes t) = ap length e in omega arith in
     rw n (sym e)
 
 pub next_token : (bytes : List ℕ) (t u : Item) → is_terminal End t.lexeme ≡ false → items 0 t.lexeme.line t.stop (drop t.stop bytes) ≡ items_from bytes u →

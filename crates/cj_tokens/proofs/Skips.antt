@@ -1,6 +1,6 @@
 -- Blanks, line feeds and comments.
-use Rattle.std.proofs.Common.{◌≡◌, ℕ, zero, suc, ◌+◌, ◌<◌, ◌≤◌, ◌-◌, Bool, true, false, List, [], ◌∷◌, length, drop, take, get_or, refl, ◌∙◌, arith, add-one,
-    add-zero, drop-cons, drop-drop, length-drop}
+use Rattle.std.proofs.Common.{◌≡◌, ℕ, zero, suc, ◌+◌, ◌<◌, ◌≤◌, ◌-◌, Bool, true, false, List, [], ◌∷◌, length, drop, take, get_or, refl, ◌∙◌, arith, add-one}
+use Rattle.std.proofs.Common.{add-zero, drop-cons, drop-drop, length-drop}
 use Rattle.std.proofs.lemmas.Bool.{eqb-true}
 use Rattle.std.proofs.lemmas.List.{take_rest}
 use Rattle.std.proofs.lemmas.List.Sums.{prefix_len-le-length}
@@ -36,12 +36,12 @@ at_break line i bytes h b = let s : drop i bytes ≡ get_or bytes i 0 ∷ drop (
 pub at_blank : (line i : ℕ) (bytes : List ℕ) → i < length bytes → (get_or bytes i 0 ≡ 10 → ⊥) → is_blank (get_or bytes i 0) ≡ true →
     items 0 line i (drop i bytes) ≡ items 0 line (i + 1) (drop (i + 1) bytes)
 unfolding items
-at_blank line i bytes h n b = let s : drop i bytes ≡ get_or bytes i 0 ∷ drop (i + 1) bytes = next_at bytes i h in rw (s, differs (get_or bytes i 0) 10 n,
-    b) refl
+at_blank line i bytes h n b = let s : drop i bytes ≡ get_or bytes i 0
+    ∷ drop (i + 1) bytes = next_at bytes i h in rw (s, differs (get_or bytes i 0) 10 n, b) refl
 
 pub at_comment : (line i : ℕ) (bytes : List ℕ) → i < length bytes → get_or bytes i 0 ≡ 35 →
-    items 0 line i (drop i bytes) ≡ items 0 line (i + (1 + prefix_len is_in_line (drop (i + 1) bytes)))
-    (drop (i + (1 + prefix_len is_in_line (drop (i + 1) bytes))) bytes)
+    items 0 line i (drop i bytes)
+    ≡ items 0 line (i + (1 + prefix_len is_in_line (drop (i + 1) bytes))) (drop (i + (1 + prefix_len is_in_line (drop (i + 1) bytes))) bytes)
 unfolding items
 at_comment line i bytes h b =
     let rest : List ℕ = drop (i + 1) bytes in

@@ -87,8 +87,8 @@ lookup_by_place at other t n (word ∷ words) = go (bytes_eq word t) (lookup_by_
   where
     go : (c : Bool) →
         lookup (zip words (terminals_from at (n + 1) words)) other t ≡ beside at other (position_from (λ word. bytes_eq word t) (n + 1) words) →
-        cond c (at n) (lookup (zip words (terminals_from at (n + 1) words)) other t) ≡ beside at other
-            (cond c (Some n) (position_from (λ word. bytes_eq word t) (n + 1) words))
+        cond c (at n) (lookup (zip words (terminals_from at (n + 1) words)) other t)
+        ≡ beside at other (cond c (Some n) (position_from (λ word. bytes_eq word t) (n + 1) words))
     go true i = refl
     go false i = i
 

@@ -2,10 +2,11 @@
 use Rattle.std.specs.Prelude.{ℕ, ℤ, Bool, ◌&&◌, List, nat_eq}
 use Rattle.std.specs.Str.{bytes_eq}
 use Rattle.cj_tokens.specs.declared.terminal.Terminal.{Terminal}
-use Rattle.cj_tokens.specs.declared.terminal.Terminal.TheVariants.{End, BadCharacter, BadNumber, Name, Number, Text, Fun, Nop, Op, Cond, Call, Return, Print,
-    Load, Store, Fail, Neg, Eqz, Calls, Guess, Cold, Then, Else, Warm, Memory, Limit, Events, Begin, Step, Compile, Anchors, Assume, Delay, Const, Inline,
-    When, Never, Keep, OpenParen, CloseParen, OpenBrace, CloseBrace, OpenBracket, CloseBracket, Comma, Semicolon, Colon, Equals, Plus, Minus, Star, Slash,
-    Percent, Less, Arrow}
+use Rattle.cj_tokens.specs.declared.terminal.Terminal.TheVariants.{End, BadCharacter, BadNumber, Name, Number, Text, Fun, Nop, Op, Cond, Call, Return, Print}
+use Rattle.cj_tokens.specs.declared.terminal.Terminal.TheVariants.{Load, Store, Fail, Neg, Eqz, Calls, Guess, Cold, Then, Else, Warm, Memory, Limit, Events}
+use Rattle.cj_tokens.specs.declared.terminal.Terminal.TheVariants.{Begin, Step, Compile, Anchors, Assume, Delay, Const, Inline, When, Never, Keep, OpenParen}
+use Rattle.cj_tokens.specs.declared.terminal.Terminal.TheVariants.{CloseParen, OpenBrace, CloseBrace, OpenBracket, CloseBracket, Comma, Semicolon, Colon}
+use Rattle.cj_tokens.specs.declared.terminal.Terminal.TheVariants.{Equals, Plus, Minus, Star, Slash, Percent, Less, Arrow}
 
 -- A token: which terminal it is, the line in which it stands, its bytes, and the value of a number.
 pub record Lexeme : Type 0 where

@@ -5,8 +5,9 @@ use Rattle.cj_tokens.specs.Scan.{Item}
 use Rattle.cj_tokens.specs.declared.refusal.Kind.TheVariants as kinds
 use Rattle.cj_tokens.specs.declared.refusal.Refused.{Refused}
 use Rattle.cj_tokens.specs.declared.terminal.Terminal.{Terminal}
-use Rattle.cj_tokens.specs.declared.terminal.Terminal.TheVariants.{End, BadCharacter, BadNumber, Name, Number, Text, OpenParen, CloseParen, OpenBrace,
-    CloseBrace, OpenBracket, CloseBracket, Comma, Semicolon, Colon, Equals, Plus, Minus, Star, Slash, Percent, Less, Arrow}
+use Rattle.cj_tokens.specs.declared.terminal.Terminal.TheVariants.{End, BadCharacter, BadNumber, Name, Number, Text, OpenParen, CloseParen, OpenBrace}
+use Rattle.cj_tokens.specs.declared.terminal.Terminal.TheVariants.{CloseBrace, OpenBracket, CloseBracket, Comma, Semicolon, Colon, Equals, Plus, Minus, Star}
+use Rattle.cj_tokens.specs.declared.terminal.Terminal.TheVariants.{Slash, Percent, Less, Arrow}
 use Rattle.cj_tokens.specs.declared.piece.Piece.{Piece}
 use Rattle.cj_tokens.specs.declared.piece.Piece.TheVariants as pieces
 use Rattle.cj_tokens.specs.declared.piece.Token.{Token}

@@ -6,8 +6,8 @@ use Rattle.cj_tokens.specs.Bytes.{is_greater, begins}
 use Rattle.cj_tokens.specs.Lexemes.{Lexeme, number_of}
 use Rattle.cj_tokens.specs.Scan.{items, lexeme_in}
 use Rattle.cj_tokens.specs.declared.terminal.Terminal.{Terminal}
-use Rattle.cj_tokens.specs.declared.terminal.Terminal.TheVariants.{OpenParen, CloseParen, OpenBrace, CloseBrace, OpenBracket, CloseBracket, Comma, Semicolon,
-    Colon, Equals, Plus, Minus, Star, Slash, Percent, Less, Arrow}
+use Rattle.cj_tokens.specs.declared.terminal.Terminal.TheVariants.{OpenParen, CloseParen, OpenBrace, CloseBrace, OpenBracket, CloseBracket, Comma, Semicolon}
+use Rattle.cj_tokens.specs.declared.terminal.Terminal.TheVariants.{Colon, Equals, Plus, Minus, Star, Slash, Percent, Less, Arrow}
 
 -- the keyword of a terminal, by its number; no other has one
 abbrev pub keyword_of : ℕ → List ℕ

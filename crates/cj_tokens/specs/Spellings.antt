@@ -7,10 +7,11 @@ use Rattle.cj_ir.specs.Texts.{is_letter, keywords}
 use Rattle.cj_tokens.specs.Bytes.{is_minus, is_quote, begins}
 use Rattle.cj_tokens.specs.Lexemes.{Lexeme}
 use Rattle.cj_tokens.specs.declared.terminal.Terminal.{Terminal}
-use Rattle.cj_tokens.specs.declared.terminal.Terminal.TheVariants.{End, BadCharacter, BadNumber, Name, Number, Text, Fun, Nop, Op, Cond, Call, Return, Print,
-    Load, Store, Fail, Neg, Eqz, Calls, Guess, Cold, Then, Else, Warm, Memory, Limit, Events, Begin, Step, Compile, Anchors, Assume, Delay, Const, Inline,
-    When, Never, Keep, OpenParen, CloseParen, OpenBrace, CloseBrace, OpenBracket, CloseBracket, Comma, Semicolon, Colon, Equals, Plus, Minus, Star, Slash,
-    Percent, Less, Arrow}
+use Rattle.cj_tokens.specs.declared.terminal.Terminal.TheVariants.{End, BadCharacter, BadNumber, Name, Number, Text, Fun, Nop, Op, Cond, Call, Return, Print}
+use Rattle.cj_tokens.specs.declared.terminal.Terminal.TheVariants.{Load, Store, Fail, Neg, Eqz, Calls, Guess, Cold, Then, Else, Warm, Memory, Limit, Events}
+use Rattle.cj_tokens.specs.declared.terminal.Terminal.TheVariants.{Begin, Step, Compile, Anchors, Assume, Delay, Const, Inline, When, Never, Keep, OpenParen}
+use Rattle.cj_tokens.specs.declared.terminal.Terminal.TheVariants.{CloseParen, OpenBrace, CloseBrace, OpenBracket, CloseBracket, Comma, Semicolon, Colon}
+use Rattle.cj_tokens.specs.declared.terminal.Terminal.TheVariants.{Equals, Plus, Minus, Star, Slash, Percent, Less, Arrow}
 
 -- the terminal beside the bytes in a table; where they are not in it, another
 abbrev pub lookup : List (List ℕ × Terminal) → Terminal → List ℕ → Terminal
@@ -21,7 +22,7 @@ lookup (e ∷ es) other t = cond (bytes_eq e.0 t) e.1 (lookup es other t)
 abbrev pub keyword_terminals : List Terminal
 keyword_terminals =
     Fun ∷ Nop ∷ Op ∷ Cond ∷ Call ∷ Return ∷ Print ∷ Load ∷ Store ∷ Fail ∷ Neg ∷ Eqz ∷ Calls ∷ Guess ∷ Cold ∷ Then ∷ Else ∷ Warm ∷ Memory ∷ Limit ∷ Events
-        ∷ Begin ∷ Step ∷ Compile ∷ Anchors ∷ Assume ∷ Delay ∷ Const ∷ Inline ∷ When ∷ Never ∷ Keep ∷ []
+    ∷ Begin ∷ Step ∷ Compile ∷ Anchors ∷ Assume ∷ Delay ∷ Const ∷ Inline ∷ When ∷ Never ∷ Keep ∷ []
 
 -- the keywords
 unfoldable pub keyword_table : List (List ℕ × Terminal)
@@ -31,8 +32,8 @@ keyword_table = zip keywords keyword_terminals
 unfoldable pub mark_table : List (List ℕ × Terminal)
 mark_table =
     (codes "(", OpenParen) ∷ (codes ")", CloseParen) ∷ (codes "{", OpenBrace) ∷ (codes "}", CloseBrace) ∷ (codes "[", OpenBracket) ∷ (codes "]", CloseBracket)
-        ∷ (codes ",", Comma) ∷ (codes ";", Semicolon) ∷ (codes ":", Colon) ∷ (codes "=", Equals) ∷ (codes "+", Plus) ∷ (codes "-", Minus) ∷ (codes "*", Star)
-        ∷ (codes "/", Slash) ∷ (codes "%", Percent) ∷ (codes "<", Less) ∷ (codes "->", Arrow) ∷ []
+    ∷ (codes ",", Comma) ∷ (codes ";", Semicolon) ∷ (codes ":", Colon) ∷ (codes "=", Equals) ∷ (codes "+", Plus) ∷ (codes "-", Minus) ∷ (codes "*", Star)
+    ∷ (codes "/", Slash) ∷ (codes "%", Percent) ∷ (codes "<", Less) ∷ (codes "->", Arrow) ∷ []
 
 -- a word that is no keyword is a NAME
 abbrev pub word_terminal : List ℕ → Terminal

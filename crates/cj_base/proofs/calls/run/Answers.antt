@@ -6,19 +6,21 @@ use Rattle.cj_base.proofs.RunLemmas.{run_starts, run_goes_on, ended_outcome, lim
 use Rattle.cj_base.proofs.calls.run.Goals as goal
 
 pub loop-turn-init : goal.loop-turn-init
-loop-turn-init c =
-    (c.in_ok-config.ensures.fits,
-        run_starts c.args.checked.now (begun c.args.call.now) c.new-printed.result (config_of c.in_ok-config.config) c.new-printed.ensures
-        c.in_ok-config.ensures.start)
+loop-turn-init c = (
+  c.in_ok-config.ensures.fits,
+  run_starts c.args.checked.now (begun c.args.call.now) c.new-printed.result
+      (config_of c.in_ok-config.config) c.new-printed.ensures c.in_ok-config.ensures.start,
+)
 
 pub loop-turn-preserved : goal.loop-turn-preserved
 loop-turn-preserved c =
     let before = c.loop-turn in
     let after = c.turn.new in
-    let made = rw c.in_default.is at c.in_ok-end.ensures.made in
-    (c.turn.ensures.fits,
-        run_goes_on c.args.checked.now (begun c.args.call.now) before.turn (config_of before.config) (config_of after.self) before.printed after.printed
-        before.invariant.1 made)
+    let made = rw c.in_default.is at c.in_ok-end.ensures.made in (
+      c.turn.ensures.fits,
+      run_goes_on c.args.checked.now (begun c.args.call.now) before.turn (config_of before.config)
+          (config_of after.self) before.printed after.printed before.invariant.1 made,
+    )
 
 pub returns-in-Ended-clause-outcome : goal.returns-in-Ended-clause-outcome
 unfolding begun
@@ -30,12 +32,12 @@ returns-in-Ended-clause-outcome c =
     let turns : c.from.result + 1 ≡ before.turn + 1 = omega arith in
     let within : before.turn < c.args.call.now.limit = omega arith in
     ended_outcome c.args.checked.now (begun c.args.call.now) before.turn (c.from.result + 1) (config_of before.config)
-        (config_of after.self) before.printed after.printed c.in-Ended.end before.invariant.1 made free turns within
+    (config_of after.self) before.printed after.printed c.in-Ended.end before.invariant.1 made free turns within
 
 pub returns-in-Ended-clause-whole : goal.returns-in-Ended-clause-whole
 returns-in-Ended-clause-whole c =
     whole_of c.args.checked.now (begun c.args.call.now) (record { printed = c.turn.new.printed; end = c.in-Ended.end; turns = c.from.result + 1 })
-        (returns-in-Ended-clause-outcome c)
+    (returns-in-Ended-clause-outcome c)
 
 pub returns-clause-outcome : goal.returns-clause-outcome
 unfolding begun
@@ -48,4 +50,4 @@ returns-clause-outcome c =
 pub returns-clause-whole : goal.returns-clause-whole
 returns-clause-whole c =
     whole_of c.args.checked.now (begun c.args.call.now) (record { printed = c.loop-turn.printed; end = TurnLimit; turns = c.from-2.result })
-        (returns-clause-outcome c)
+    (returns-clause-outcome c)

@@ -14,4 +14,4 @@ checked-requires c =
 pub returns-clause-fits : goal.returns-clause-fits
 returns-clause-fits c =
     made_fits c.args.number c.drawn_functions.new.draws.state c.checked.result c.in_ok-functions.functions c.new-setups.result c.in_ok-calls.calls
-        c.checked.ensures c.in_ok-functions.ensures.made c.new-setups.ensures c.in_ok-functions.ensures.next c.in_ok-calls.ensures
+    c.checked.ensures c.in_ok-functions.ensures.made c.new-setups.ensures c.in_ok-functions.ensures.next c.in_ok-calls.ensures

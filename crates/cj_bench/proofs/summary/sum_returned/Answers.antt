@@ -27,4 +27,4 @@ loop-report-preserved c =
 pub returns : goal.returns
 returns c =
     sum_end c.args.reports.now c.loop-report.report-index (to_z w64 c.loop-report.sum-bits) (wrap (total (returned c.args.reports.now)))
-        (sfits_to_z c.loop-report.auto.sum) c.loop-report-test.false c.loop-report.invariant
+    (sfits_to_z c.loop-report.auto.sum) c.loop-report-test.false c.loop-report.invariant

@@ -26,7 +26,7 @@ returns-clause-headline g c =
     let later = g.W.Watch.codes c.run_from.new.watch in
     let r = c.in_ok-ran.ran.report in
     subst (λ (memory : List ℤ). ReportStands P (begun_with c.args.call.now memory) r × IsWhole P (begun_with c.args.call.now memory) r) zeros
-        c.in_ok-ran.ensures.headline
+    c.in_ok-ran.ensures.headline
 
 pub returns-clause-went : goal.returns-clause-went
 unfolding begun begun_with
@@ -36,7 +36,7 @@ returns-clause-went g c =
     let later = g.W.Watch.codes c.run_from.new.watch in
     let r = c.in_ok-ran.ran.report in
     subst (λ (memory : List ℤ). g.W.Watch.went c.args.watch.now c.run_from.new.watch
-        (run_marks P later r.looks (begun_with c.args.call.now memory) c.args.call.now.limit)) zeros c.in_ok-ran.ensures.went
+    (run_marks P later r.looks (begun_with c.args.call.now memory) c.args.call.now.limit)) zeros c.in_ok-ran.ensures.went
 
 pub returns-in_err-ran-clause-stopped : goal.returns-in_err-ran-clause-stopped
 unfolding begun begun_with
@@ -46,4 +46,4 @@ returns-in_err-ran-clause-stopped g c =
     let after = c.run_from.new.watch in
     refused_so _ _
     (subst (λ (memory : List ℤ). Stopped c.args.checked.now (g.W.Watch.went before after) (g.W.Watch.codes after) (g.W.Watch.trail before)
-        (g.W.Watch.trail after) (begun_with c.args.call.now memory)) zeros c.in_err-ran.ensures.stopped)
+    (g.W.Watch.trail after) (begun_with c.args.call.now memory)) zeros c.in_err-ran.ensures.stopped)

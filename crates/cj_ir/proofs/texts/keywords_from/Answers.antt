@@ -91,6 +91,6 @@ returns-in_default c =
         nat_eq 97 b ≡ false → nat_eq 98 b ≡ false → nat_eq 99 b ≡ false → nat_eq 100 b ≡ false → nat_eq 101 b ≡ false → nat_eq 102 b ≡ false →
         nat_eq 103 b ≡ false → nat_eq 105 b ≡ false → nat_eq 107 b ≡ false → nat_eq 108 b ≡ false → nat_eq 109 b ≡ false → nat_eq 110 b ≡ false →
         nat_eq 111 b ≡ false → nat_eq 112 b ≡ false → nat_eq 114 b ≡ false → nat_eq 115 b ≡ false → nat_eq 116 b ≡ false → nat_eq 119 b ≡ false →
-            begins_none b (enumerate_from 0 keywords) ≡ true
+        begins_none b (enumerate_from 0 keywords) ≡ true
     none b n97 n98 n99 n100 n101 n102 n103 n105 n107 n108 n109 n110 n111 n112 n114 n115 n116 n119 =
         rw (n97, n98, n99, n100, n101, n102, n103, n105, n107, n108, n109, n110, n111, n112, n114, n115, n116, n119) refl

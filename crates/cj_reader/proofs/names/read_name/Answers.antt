@@ -25,8 +25,8 @@ returns-clause-reads c =
     sym c.is_too_many-too_many.ensures ∙ passed c.is_too_many-too_many.result t TooMany _ c.in_ok-refuse_if.ensures in
     let new : list_any (λ other. bytes_eq other t.text) earlier ≡ false =
     sym c.is_among-twice.ensures ∙ passed c.is_among-twice.result t NameTwice _ c.in_ok-refuse_if-2.ensures in
-    let e : name_at c.args.limit earlier ts ≡ (word_at t >>= λ name. Ok (name, behind ts)) = name_there c.args.limit earlier ts t c.take-token.ensures.token
-        few new in
+    let e : name_at c.args.limit earlier ts
+    ≡ (word_at t >>= λ name. Ok (name, behind ts)) = name_there c.args.limit earlier ts t c.take-token.ensures.token few new in
     let f : (word_at t >>= λ name. Ok (name, us)) ≡ name_at c.args.limit earlier ts =
     ap (λ (vs : List Lexeme). word_at t >>= λ name. Ok (name, vs)) c.take-token.ensures.left ∙ sym e in
     subst (λ (r : Read (List ℕ)). Gives c.word.result us r) f (found_gives c.word.result (word_at t) us c.word.ensures)

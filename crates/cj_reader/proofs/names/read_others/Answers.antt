@@ -20,5 +20,5 @@ returns-in_ok-count-clause-reads c =
     let l : us ≡ behind ts = c.take-mark.ensures.left in
     let m : count_at (behind ts) ≡ n = ap count_at (sym l) ∙ ok_same c.in_ok-count.ensures in
     let e : names_at 32 n ps us ≡ others_at ps ts = ap (λ vs. names_at 32 n ps vs) l
-        ∙ (ap (λ k. names_at 32 k ps (behind ts)) (sym m) ∙ sym (others_there ps ts t)) in
+    ∙ (ap (λ k. names_at 32 k ps (behind ts)) (sym m) ∙ sym (others_there ps ts t)) in
     subst (λ (r : Read (List (List ℕ))). Gives c.read_names.result (left c.read_names.new.tokens) r) e c.read_names.ensures.reads

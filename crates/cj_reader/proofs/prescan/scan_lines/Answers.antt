@@ -19,8 +19,8 @@ more-preserved c =
     let done : List ℤ = c.more.invariant.0 in
     let new : List ℤ = numbered (seen c.take-token.result) c.peek.result in
     let next : new ≡ numbered (front (left c.more.tokens)) (front (behind (left c.more.tokens))).terminal =
-    ap (λ t. numbered t c.peek.result) c.take-token.ensures.token ∙ ap (λ k. numbered (front (left c.more.tokens)) k)
-        (c.peek.ensures ∙ ap (λ us. (front us).terminal) c.take-token.ensures.left) in
+    ap (λ t. numbered t c.peek.result) c.take-token.ensures.token
+    ∙ ap (λ k. numbered (front (left c.more.tokens)) k) (c.peek.ensures ∙ ap (λ us. (front us).terminal) c.take-token.ensures.left) in
     let e : numbers_at (left c.args.tokens) ≡ (done ++ new) ++ numbers_at (left c.take-token.new.self) =
     rw (c.take-token.ensures.left, next) (c.more.invariant.2 ∙ (ap (λ ns. done ++ ns) (numbers_go (left c.more.tokens) h) ∙ sym (append_assoc done _ _))) in
     (done ++ new, c.in-Ok.ensures.noted done c.more.invariant.1, e)

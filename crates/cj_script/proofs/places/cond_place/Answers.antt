@@ -11,10 +11,10 @@ returns-in-None c =
 pub returns-then-is_cond : goal.returns-then-is_cond
 returns-then-is_cond c =
     cond_judged c.args.function.now (seen c.args.number) c.in-Some.place c.line_at.result.now (sym c.in-Some.ensures.place) c.line_at.ensures
-        (sym c.is_cond.ensures ∙ c.if-is_cond.true)
+    (sym c.is_cond.ensures ∙ c.if-is_cond.true)
 
 pub returns-else-is_cond : goal.returns-else-is_cond
 returns-else-is_cond c =
     refused_fails _ _ _ c.refused-else-is_cond.ensures
-        (no_cond_judged c.args.function.now (seen c.args.number) c.in-Some.place c.line_at.result.now (sym c.in-Some.ensures.place) c.line_at.ensures
-        (sym c.is_cond.ensures ∙ c.if-is_cond.false))
+    (no_cond_judged c.args.function.now (seen c.args.number) c.in-Some.place c.line_at.result.now (sym c.in-Some.ensures.place) c.line_at.ensures
+    (sym c.is_cond.ensures ∙ c.if-is_cond.false))

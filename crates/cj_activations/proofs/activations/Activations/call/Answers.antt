@@ -8,7 +8,7 @@ invariant_of-self-2 c =
     let start = c.at-self-inside.ensures.start ∙ c.len-start.ensures ∙ c.self.inside.values.ok.0 in
     let pushed = rw c.if-is_err.ensures.negation at c.push.ensures.items in
     called_tiled c.self.inside.values.items _ _ c.self.inside.top c.at-self-inside.result _ c.self.inside.waiting.items _ _ _ c.in_ok-push_entry.ensures.ok
-        pushed c.paused.ensures start c.self.invariant
+    pushed c.paused.ensures start c.self.invariant
 
 pub returns-clause-ok : goal.returns-clause-ok
 unfolding called entered
@@ -16,4 +16,4 @@ returns-clause-ok c =
     let start = c.at-self-inside.ensures.start ∙ c.len-start.ensures ∙ c.self.inside.values.ok.0 in
     let pushed = rw c.if-is_err.ensures.negation at c.push.ensures.items in
     called_seen c.self.inside.values.items _ _ c.self.inside.top _ _ _ c.self.inside.waiting.items _ _ _ _ c.at-self-inside.ensures.position
-        c.in_ok-push_entry.ensures.ok pushed c.paused.ensures start c.self.view_is
+    c.in_ok-push_entry.ensures.ok pushed c.paused.ensures start c.self.view_is

@@ -19,5 +19,5 @@ returns-clause-no_memory c =
     let appended = rw fine at c.extend_from_slice-put_back.ensures.items in
     let saved : c.as_slice.result.now ≡ drop old.top.start old.values.items = grind (arith, common_steps) in
     let kept : c.extend_from_slice-put_back.new.self.items ≡ take old.top.start c.write_frames.new.values.items
-        ++ drop old.top.start old.values.items = rw (appended, c.truncate-in-Err-2.ensures.items, saved) refl in
+    ++ drop old.top.start old.values.items = rw (appended, c.truncate-in-Err-2.ensures.items, saved) refl in
     rw (windows, kept, put_back old.values.items c.write_frames.new.values.items old.top.start c.self.invariant.0 written) c.self.view_is

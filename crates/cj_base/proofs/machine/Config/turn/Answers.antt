@@ -16,11 +16,11 @@ returns-clause-fits c =
     let old = config_of c.args.self.now in
     let after = turn_fits P old.stack old.memory c.program.ensures.well_formed c.requires in
     kept_fits P (turn_of P old) c.args.self.now c.make.new.self c.args.printed.now c.make.new.printed c.make.result
-        (returns-clause-made c) c.make.ensures.no_memory after c.requires
+    (returns-clause-made c) c.make.ensures.no_memory after c.requires
 
 pub returns-clause-no_limit : goal.returns-clause-no_limit
 returns-clause-no_limit c =
     let P = c.args.checked.now in
     let old = config_of c.args.self.now in
     made_freely (turn_of P old) old (config_of c.make.new.self) c.args.printed.now c.make.new.printed c.make.result (returns-clause-made c)
-        (turn_freely P old.stack old.memory)
+    (turn_freely P old.stack old.memory)

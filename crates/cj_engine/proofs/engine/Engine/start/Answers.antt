@@ -15,7 +15,7 @@ returns-clause-made g c =
     let zeros = c.in_ok-memory.ensures in
     let m = c.in_ok-engine.engine in
     subst (λ (memory : List ℤ). version_start c.args.checked.now (g.W.Watch.codes c.start_from.new.watch) (slice_get m.looks 0)
-        (begun_with c.args.call.now memory) ≡ Continues (m.state)) zeros c.in_ok-engine.ensures.made
+    (begun_with c.args.call.now memory) ≡ Continues (m.state)) zeros c.in_ok-engine.ensures.made
 
 pub returns-clause-run : goal.returns-clause-run
 unfolding begun begun_with
@@ -23,7 +23,7 @@ returns-clause-run g c =
     let zeros = c.in_ok-memory.ensures in
     let m = c.in_ok-engine.engine in
     subst (λ (memory : List ℤ). IsRun c.args.checked.now (g.W.Watch.codes c.start_from.new.watch) m.looks (begun_with c.args.call.now memory) (m.state)) zeros
-        c.in_ok-engine.ensures.run
+    c.in_ok-engine.ensures.run
 
 pub returns-clause-went : goal.returns-clause-went
 unfolding begun begun_with start_marks

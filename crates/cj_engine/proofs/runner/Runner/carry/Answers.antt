@@ -51,5 +51,5 @@ pub returns-in_err-enter-in-Enters-clause-told : goal.returns-in_err-enter-in-En
 unfolding marks_told
 returns-in_err-enter-in-Enters-clause-told g c =
     let told : TellsAtMost (g.W.Watch.went c.args.watch.now c.enter.new.watch) (g.W.Watch.trail c.args.watch.now) (g.W.Watch.trail c.enter.new.watch)
-        (marks_told c.args.step c.args.function c.args.label c.args.self.now.scratch) = rw c.in-Enters.is c.in_err-enter-in-Enters.ensures.told in
+    (marks_told c.args.step c.args.function c.args.label c.args.self.now.scratch) = rw c.in-Enters.is c.in_err-enter-in-Enters.ensures.told in
     refused_so _ _ told

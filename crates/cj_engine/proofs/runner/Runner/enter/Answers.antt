@@ -25,10 +25,10 @@ pub returns-in_err-push-clause-told : goal.returns-in_err-push-clause-told
 returns-in_err-push-clause-told g c =
     let told = rw c.items-args.ensures at c.in_ok-offset.ensures.went in
     refused_so _ _ (entry_told (g.W.Watch.went c.args.watch.now c.enter.new.self) (g.W.Watch.trail c.args.watch.now)
-        (g.W.Watch.trail c.enter.new.self) c.args.function c.args.self.now.scratch c.in_ok-offset.offset told c.in_ok-offset.ensures.looked)
+    (g.W.Watch.trail c.enter.new.self) c.args.function c.args.self.now.scratch c.in_ok-offset.offset told c.in_ok-offset.ensures.looked)
 
 pub returns-in-Err-clause-told : goal.returns-in-Err-clause-told
 returns-in-Err-clause-told g c =
     let told = rw c.items-args.ensures at c.in_ok-offset.ensures.went in
     entry_told (g.W.Watch.went c.args.watch.now c.enter.new.self) (g.W.Watch.trail c.args.watch.now) (g.W.Watch.trail c.enter.new.self) c.args.function
-        c.args.self.now.scratch c.in_ok-offset.offset told c.in_ok-offset.ensures.looked
+    c.args.self.now.scratch c.in_ok-offset.offset told c.in_ok-offset.ensures.looked

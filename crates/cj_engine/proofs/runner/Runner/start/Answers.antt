@@ -33,9 +33,9 @@ returns-clause-run g c =
     c.entry_at-entry.result.position c.entry_at-entry.result.count c.in_ok-activations.activations
     c.new-2.ensures c.new-3.ensures looks (c.entry_at-entry.ensures c.args.call.now.args) stack in
     let sound = subst (λ (P : Program). SoundCodes P codes) (c.in_ok-offset.ensures.same ∙ c.requires.program)
-        (g.met.W.Watch.sound c.enter.new.self c.in_ok-offset.ensures.ready) in
+    (g.met.W.Watch.sound c.enter.new.self c.in_ok-offset.ensures.ready) in
     start_is_run c.args.checked.now codes c.push.new.self (begun_with c.args.call.now c.args.memory) _ c.program-program.ensures.well_formed sound
-        c.requires.takes c.requires.limit.1 refl made
+    c.requires.takes c.requires.limit.1 refl made
 
 pub entry_at-entry-requires-clause-inside : goal.entry_at-entry-requires-clause-inside
 entry_at-entry-requires-clause-inside g c =
@@ -51,11 +51,11 @@ unfolding start_marks begun_with
 returns-in_err-push-clause-told g c =
     let told = rw c.items-args.ensures at c.in_ok-offset.ensures.went in
     refused_so _ _ (entry_told (g.W.Watch.went c.args.watch.now c.enter.new.self) (g.W.Watch.trail c.args.watch.now)
-        (g.W.Watch.trail c.enter.new.self) c.args.call.now.function c.args.call.now.args c.in_ok-offset.offset told c.in_ok-offset.ensures.looked)
+    (g.W.Watch.trail c.enter.new.self) c.args.call.now.function c.args.call.now.args c.in_ok-offset.offset told c.in_ok-offset.ensures.looked)
 
 pub returns-in_err-activations-clause-told : goal.returns-in_err-activations-clause-told
 unfolding start_marks begun_with
 returns-in_err-activations-clause-told g c =
     let told = rw c.items-args.ensures at c.in_ok-offset.ensures.went in
     refused_so _ _ (entry_told (g.W.Watch.went c.args.watch.now c.enter.new.self) (g.W.Watch.trail c.args.watch.now)
-        (g.W.Watch.trail c.enter.new.self) c.args.call.now.function c.args.call.now.args c.in_ok-offset.offset told c.in_ok-offset.ensures.looked)
+    (g.W.Watch.trail c.enter.new.self) c.args.call.now.function c.args.call.now.args c.in_ok-offset.offset told c.in_ok-offset.ensures.looked)

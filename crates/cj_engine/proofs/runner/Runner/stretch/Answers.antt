@@ -44,7 +44,7 @@ carry-requires-clause-fits g c =
     ⊎_elim
     (λ a. absurd (c.in_default.not-Goes a.0))
     (λ st. subst (λ (Q : Program). IsReady Q codes args c.in-Version.function stop.label (state_of c.glide.new.self.machine) stop.step)
-        (sym (ap (λ r. r.now) e.checked)) st.ready)
+    (sym (ap (λ r. r.now) e.checked)) st.ready)
     e.made
 
 pub returns-in-Goes-clause-made : goal.returns-in-Goes-clause-made
@@ -57,7 +57,7 @@ returns-in-Goes-clause-made g c =
     let e = c.in_ok-stop-in-Version.ensures in
     ⊎_elim
     (λ a. quiet_stretch P (g.W.Watch.went c.args.watch.now c.args.watch.now) codes c.glide.new.self.machine.looks a.1 c.args.count s
-        (state_of c.glide.new.self.machine) (g.met.W.Watch.went_nowhere c.args.watch.now) a.2 a.3 a.4)
+    (state_of c.glide.new.self.machine) (g.met.W.Watch.went_nowhere c.args.watch.now) a.2 a.3 a.4)
     (λ st. absurd (st.stops c.in-Goes.is)) e.made
 
 pub returns-in_ok-turned-in_default-clause-made : goal.returns-in_ok-turned-in_default-clause-made
@@ -78,11 +78,11 @@ returns-in_ok-turned-in_default-clause-made g c =
     let stop = c.in_ok-stop-in-Version.stop in
     let args = c.glide.new.self.scratch in
     let made = subst (λ (Q : Program). IsCarried Q args u stop.step later (slice_get now (length at)) (progress_of c.in_ok-turned-in_default.turned t))
-        (ap (λ r. r.now) e.checked) d.made in
+    (ap (λ r. r.now) e.checked) d.made in
     ⊎_elim
     (λ a. absurd (c.in_default.not-Goes a.0))
     (λ st. stop_stretch P (g.W.Watch.went c.args.watch.now c.carry.new.watch) codes later args c.in-Version.function stop.label looks at now c.args.count s u
-        stop.step c.in_ok-turned-in_default.turned t d.keeps.grows refl e.looks st made d.went)
+    stop.step c.in_ok-turned-in_default.turned t d.keeps.grows refl e.looks st made d.went)
     e.made
 
 pub returns-in_err-stop-in-Version-clause-halted : goal.returns-in_err-stop-in-Version-clause-halted
@@ -95,7 +95,7 @@ returns-in_err-stop-in-Version-clause-halted g c =
     let e = c.in_err-stop-in-Version.ensures in
     let trail = g.W.Watch.trail c.args.watch.now in
     refused_so _ _ (starved_halts P (g.W.Watch.went c.args.watch.now c.args.watch.now) codes c.args.self.now.machine.looks c.glide.new.self.machine.looks trail
-        c.args.count s (state_of c.glide.new.self.machine) (g.met.W.Watch.went_nowhere c.args.watch.now) e.looks refl e.starved)
+    c.args.count s (state_of c.glide.new.self.machine) (g.met.W.Watch.went_nowhere c.args.watch.now) e.looks refl e.starved)
 
 pub returns-in_err-turned-in_default-clause-halted : goal.returns-in_err-turned-in_default-clause-halted
 unfolding state_of
@@ -116,6 +116,6 @@ returns-in_err-turned-in_default-clause-halted g c =
     ⊎_elim
     (λ a. absurd (c.in_default.not-Goes a.0))
     (λ st. refused_so _ _
-        (stopped_halts P (g.W.Watch.went c.args.watch.now c.carry.new.watch) codes later args c.in-Version.function stop.label looks first last c.args.count s
-        c.glide.new.self.machine c.carry.new.self.machine stop.step d.keeps.grows e.looks st d.only_then d.told d.no_memory))
+    (stopped_halts P (g.W.Watch.went c.args.watch.now c.carry.new.watch) codes later args c.in-Version.function stop.label looks first last c.args.count s
+    c.glide.new.self.machine c.carry.new.self.machine stop.step d.keeps.grows e.looks st d.only_then d.told d.no_memory))
     e.made

@@ -9,17 +9,17 @@ pub edge_at-requires : goal.edge_at-requires
 edge_at-requires c =
     let t = c.self.inside in
     let within : c.args.label.0 < length (walks (length t.counts) t.nodes t.counts) = subst (λ (v : EdgeTable). c.args.label.0 < length v.lists)
-        (sym c.self.view_is) c.requires in
+    (sym c.self.view_is) c.requires in
     let h = c.self.invariant.lists_of in
     rw (c.items.ensures, c.items-2.ensures)
-        (first_within (length t.counts) t.nodes t.counts t.edges (walks (length t.counts) t.nodes t.counts) c.self.invariant c.args.label.0
-        (omega (arith, within, h)))
+    (first_within (length t.counts) t.nodes t.counts t.edges (walks (length t.counts) t.nodes t.counts) c.self.invariant c.args.label.0
+    (omega (arith, within, h)))
 
 pub returns : goal.returns
 returns c =
     let t = c.self.inside in
     let within : c.args.label.0 < length (walks (length t.counts) t.nodes t.counts) = subst (λ (v : EdgeTable). c.args.label.0 < length v.lists)
-        (sym c.self.view_is) c.requires in
+    (sym c.self.view_is) c.requires in
     let h = c.self.invariant.lists_of in
     rw (c.edge_at.ensures, c.items.ensures, c.items-2.ensures)
     (first_edge (length t.counts) t.nodes t.counts t.edges (walks (length t.counts) t.nodes t.counts) c.self.invariant c.args.label.0 (omega (arith, within, h))

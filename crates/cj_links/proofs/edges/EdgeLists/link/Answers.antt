@@ -19,7 +19,7 @@ overflow_add-count c =
     let t = c.self.inside in
     let inside : c.args.edge.0 < length t.edges = subst (λ (v : EdgeTable). c.args.edge.0 < length v.edges) (sym c.self.view_is) c.requires.edge in
     let free : IsLinked (table_of t.nodes t.counts t.edges) c.args.edge →
-        ⊥ = λ h. c.requires.free (subst (λ (v : EdgeTable). IsLinked v c.args.edge) c.self.view_is h) in
+    ⊥ = λ h. c.requires.free (subst (λ (v : EdgeTable). IsLinked v c.args.edge) c.self.view_is h) in
     let few = few_counted t.nodes t.counts t.edges c.self.invariant c.args.edge inside free in
     rw (c.items-4.ensures, c.items.ensures) (omega (arith, few))
 
@@ -28,7 +28,7 @@ invariant_of-self c =
     let t = c.self.inside in
     let inside : c.args.edge.0 < length t.edges = subst (λ (v : EdgeTable). c.args.edge.0 < length v.edges) (sym c.self.view_is) c.requires.edge in
     let free : IsLinked (table_of t.nodes t.counts t.edges) c.args.edge →
-        ⊥ = λ h. c.requires.free (subst (λ (v : EdgeTable). IsLinked v c.args.edge) c.self.view_is h) in
+    ⊥ = λ h. c.requires.free (subst (λ (v : EdgeTable). IsLinked v c.args.edge) c.self.view_is h) in
     let made = link_seen t.nodes t.counts t.edges c.self.invariant c.args.edge inside free in
     rw (c.set.ensures, c.lead-2.ensures, c.lead.ensures, c.items.ensures, c.items-2.ensures, c.items-3.ensures, c.items-4.ensures) made.threaded
 
@@ -37,10 +37,10 @@ returns-clause-lists c =
     let t = c.self.inside in
     let inside : c.args.edge.0 < length t.edges = subst (λ (v : EdgeTable). c.args.edge.0 < length v.edges) (sym c.self.view_is) c.requires.edge in
     let free : IsLinked (table_of t.nodes t.counts t.edges) c.args.edge →
-        ⊥ = λ h. c.requires.free (subst (λ (v : EdgeTable). IsLinked v c.args.edge) c.self.view_is h) in
+    ⊥ = λ h. c.requires.free (subst (λ (v : EdgeTable). IsLinked v c.args.edge) c.self.view_is h) in
     let made = link_seen t.nodes t.counts t.edges c.self.invariant c.args.edge inside free in
     rw (c.set.ensures, c.lead-2.ensures, c.lead.ensures, c.items.ensures, c.items-2.ensures, c.items-3.ensures, c.items-4.ensures)
-        (made.view ∙ ap (λ (v : EdgeTable). linked v c.args.edge) c.self.view_is)
+    (made.view ∙ ap (λ (v : EdgeTable). linked v c.args.edge) c.self.view_is)
 
 pub returns-clause-woven : goal.returns-clause-woven
 returns-clause-woven c = (invariant_of-self c).woven

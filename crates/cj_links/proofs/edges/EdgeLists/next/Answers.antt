@@ -12,7 +12,7 @@ edge_at-requires c =
     let n = (end_of (table_of t.nodes t.counts t.edges) c.args.edge).0 in
     let within = end_within t.nodes t.counts t.edges c.self.invariant c.args.edge linked in
     rw (c.items-labels.ensures, c.items.ensures)
-        (next_within (length t.counts) t.nodes t.counts t.edges (walks (length t.counts) t.nodes t.counts) c.self.invariant n c.args.edge within linked)
+    (next_within (length t.counts) t.nodes t.counts t.edges (walks (length t.counts) t.nodes t.counts) c.self.invariant n c.args.edge within linked)
 
 pub returns : goal.returns
 returns c = λ k at.

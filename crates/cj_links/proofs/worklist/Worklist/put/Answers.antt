@@ -11,14 +11,14 @@ pub bounds-items-at : goal.bounds-items-at
 bounds-items-at c =
     let q = c.self.inside in
     let within = mark_within q.slots q.oldest q.count q.marks c.args.label.0 c.args.self.now.labels c.self.invariant
-        (ap (λ (w : Waiting). w.labels) c.self.view_is) c.requires in
+    (ap (λ (w : Waiting). w.labels) c.self.view_is) c.requires in
     omega (arith, ap length c.items.ensures, within)
 
 marked : (c : goal.Then-items-at) → Contains c.args.self.now.list c.args.label
 marked c =
     let q = c.self.inside in
     let within = mark_within q.slots q.oldest q.count q.marks c.args.label.0 c.args.self.now.labels c.self.invariant
-        (ap (λ (w : Waiting). w.labels) c.self.view_is) c.requires in
+    (ap (λ (w : Waiting). w.labels) c.self.view_is) c.requires in
     let at = mark_read q.marks c.items.result.now c.args.label.0 true c.items.ensures within c.if-items-at.true in
     subst (λ (w : Waiting). Contains w.list c.args.label) c.self.view_is (c.self.invariant.marks_of.listed c.args.label at)
 
@@ -44,13 +44,13 @@ pub set-requires-2 : goal.set-requires-2
 set-requires-2 c =
     let q = c.self.inside in
     mark_within q.slots q.oldest q.count q.marks c.args.label.0 c.args.self.now.labels c.self.invariant
-        (ap (λ (w : Waiting). w.labels) c.self.view_is) c.requires
+    (ap (λ (w : Waiting). w.labels) c.self.view_is) c.requires
 
 unmarked : (c : goal.After-self-1) → slice_get c.self.inside.marks c.args.label.0 ≡ Some false
 unmarked c =
     let q = c.self.inside in
     let within = mark_within q.slots q.oldest q.count q.marks c.args.label.0 c.args.self.now.labels c.self.invariant
-        (ap (λ (w : Waiting). w.labels) c.self.view_is) c.requires in
+    (ap (λ (w : Waiting). w.labels) c.self.view_is) c.requires in
     mark_read q.marks c.items.result.now c.args.label.0 false c.items.ensures within c.if-items-at.false
 
 pub invariant_of-self : goal.invariant_of-self
@@ -58,7 +58,7 @@ invariant_of-self c =
     let q = c.self.inside in
     let free = (q.oldest + q.count) % length q.slots in
     let slot : c.set.new.self ≡ slice_set q.slots free c.args.label = c.set.ensures
-        ∙ ap (λ (xs : List Label). slice_set q.slots ((q.oldest + q.count) % length xs) c.args.label) c.items-2.ensures in
+    ∙ ap (λ (xs : List Label). slice_set q.slots ((q.oldest + q.count) % length xs) c.args.label) c.items-2.ensures in
     rw (slot, c.set-2.ensures) (ring_more q.slots q.oldest q.count q.marks c.args.label c.self.invariant (unmarked c))
 
 list_more : (c : goal.After-self-1) → window c.self.inside.oldest (c.self.inside.count + 1) c.set.new.self ≡ c.args.self.now.list ++ c.args.label ∷ []
@@ -66,17 +66,19 @@ list_more c =
     let q = c.self.inside in
     let free = (q.oldest + q.count) % length q.slots in
     let slot : c.set.new.self ≡ slice_set q.slots free c.args.label = c.set.ensures
-        ∙ ap (λ (xs : List Label). slice_set q.slots ((q.oldest + q.count) % length xs) c.args.label) c.items-2.ensures in
+    ∙ ap (λ (xs : List Label). slice_set q.slots ((q.oldest + q.count) % length xs) c.args.label) c.items-2.ensures in
     ap (λ (xs : List Label). window q.oldest (q.count + 1) xs) slot
     ∙ ring_list_more q.slots q.oldest q.count q.marks c.args.label c.self.invariant (unmarked c)
     ∙ ap (λ (w : Waiting). w.list ++ c.args.label ∷ []) c.self.view_is
 
 pub returns-clause-waited : goal.returns-clause-waited
 returns-clause-waited c =
-    let q = c.self.inside in
-    (λ e. cc, λ h. absurd
-        (not_marked (window q.oldest q.count q.slots) q.marks c.args.label c.self.invariant.marks_of (unmarked c)
-        (subst (λ (w : Waiting). Contains w.list c.args.label) (sym c.self.view_is) h)))
+    let q = c.self.inside in (
+      λ e. cc,
+      λ h. absurd
+          (not_marked (window q.oldest q.count q.slots) q.marks c.args.label c.self.invariant.marks_of (unmarked c)
+          (subst (λ (w : Waiting). Contains w.list c.args.label) (sym c.self.view_is) h)),
+    )
 
 size_kept : (c : goal.After-self-1) → length c.set.new.self ≡ c.args.self.now.labels
 size_kept c = ap length c.set.ensures ∙ length-set c.self.inside.slots _ c.args.label ∙ ap (λ (w : Waiting). w.labels) c.self.view_is

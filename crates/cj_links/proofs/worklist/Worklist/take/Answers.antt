@@ -16,7 +16,7 @@ pub returns-then-self-eq0-clause-rest : goal.returns-then-self-eq0-clause-rest
 returns-then-self-eq0-clause-rest c =
     let q = c.self.inside in
     let none : c.args.self.now ≡ waiting (length q.slots) [] = sym c.self.view_is
-        ∙ ap (λ n. waiting (length q.slots) (window q.oldest n q.slots)) c.if-self-eq0.true in
+    ∙ ap (λ n. waiting (length q.slots) (window q.oldest n q.slots)) c.if-self-eq0.true in
     rw none refl
 
 pub returns-then-self-eq0-clause-orderly : goal.returns-then-self-eq0-clause-orderly
@@ -44,8 +44,7 @@ invariant_of-self c =
     let at = slot q.slots c.items.result.now q.oldest x c.items.ensures (ring_start q.slots q.oldest q.count q.marks c.self.invariant some) refl in
     rw (c.items-2.ensures, c.set.ensures) (ring_less q.slots q.oldest q.count q.marks x c.self.invariant some at)
 
-split : (c : goal.After-self-2-1) →
-    c.args.self.now.list ≡ get_or c.items.result.now c.self.inside.oldest (record { 0 = 0 })
+split : (c : goal.After-self-2-1) → c.args.self.now.list ≡ get_or c.items.result.now c.self.inside.oldest (record { 0 = 0 })
     ∷ window ((c.self.inside.oldest + 1) % length c.items-2.result.now) (c.self.inside.count - 1) c.self.inside.slots
 split c =
     let q = c.self.inside in

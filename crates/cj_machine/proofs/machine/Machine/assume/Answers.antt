@@ -13,8 +13,8 @@ returns-then-guards_hold-clause-made c =
     let found = rw (c.top_registers.ensures, c.items.ensures) at c.guards_hold.ensures in
     let holds = ap (λ (b : Bool). Guarded b c.args.back c.args.target.now c.args.next) (sym found ∙ c.if-guards_hold.true) in
     λ args. rw (c.from.ensures, c.pass.ensures.running)
-        (version_passes_by (version.Assume c.args.guards.now c.args.back c.args.target.now c.args.next) args _ _ c.args.back c.args.target.now c.args.next
-        holds c.pass.ensures.made)
+    (version_passes_by (version.Assume c.args.guards.now c.args.back c.args.target.now c.args.next) args _ _ c.args.back c.args.target.now c.args.next
+    holds c.pass.ensures.made)
 
 pub returns-in_ok-rebuild-clause-made : goal.returns-in_ok-rebuild-clause-made
 unfolding version_effect state_of
@@ -22,7 +22,7 @@ returns-in_ok-rebuild-clause-made c =
     let found = rw (c.top_registers.ensures, c.items.ensures) at c.guards_hold.ensures in
     let fails = ap (λ (b : Bool). Guarded b c.args.back c.args.target.now c.args.next) (sym found ∙ c.if-guards_hold.false) in
     λ args. (version_fails_by (version.Assume c.args.guards.now c.args.back c.args.target.now c.args.next) args _ _ c.args.back c.args.target.now c.args.next
-        fails c.in_ok-rebuild.ensures.made)
+    fails c.in_ok-rebuild.ensures.made)
 
 pub returns-in_err-rebuild-clause-only_then : goal.returns-in_err-rebuild-clause-only_then
 unfolding version_effect
@@ -30,4 +30,4 @@ returns-in_err-rebuild-clause-only_then c =
     let old = c.args.self.now in
     let found = rw (c.top_registers.ensures, c.items.ensures) at c.guards_hold.ensures in
     (version_needs _ (version_effect (version.Assume c.args.guards.now c.args.back c.args.target.now c.args.next) (active_regs old.activations.top) old.memory)
-        (sym found ∙ c.if-guards_hold.false))
+    (sym found ∙ c.if-guards_hold.false))

@@ -17,43 +17,43 @@ unfolding state_of step_of effect base_marks effect_marks
 returns-in-Nop-clause-made c =
     let old = c.args.self.now in
     rw (c.in-Nop.is, c.from.ensures, c.go_to.ensures.running)
-        (base_by (base.Nop c.in-Nop.next) _ _ _ Running (λ regs. On c.in-Nop.next regs old.memory []) (λ fr. refl) (λ fr. refl)
-        (ap Continues c.go_to.ensures.made))
+    (base_by (base.Nop c.in-Nop.next) _ _ _ Running (λ regs. On c.in-Nop.next regs old.memory []) (λ fr. refl) (λ fr. refl)
+    (ap Continues c.go_to.ensures.made))
 
 pub returns-in-Op-clause-made : goal.returns-in-Op-clause-made
 unfolding state_of step_of effect base_marks effect_marks
 returns-in-Op-clause-made c =
     let old = c.args.self.now in
     rw (c.in-Op.is, c.from-in-Op.ensures)
-        (base_by (base.Op c.in-Op.dest c.in-Op.expr c.in-Op.next) _ _ _ c.operate.result
-        (λ regs. op_effect c.in-Op.dest c.in-Op.expr c.in-Op.next regs old.memory) (λ fr. refl) (λ fr. refl) c.operate.ensures.made)
+    (base_by (base.Op c.in-Op.dest c.in-Op.expr c.in-Op.next) _ _ _ c.operate.result
+    (λ regs. op_effect c.in-Op.dest c.in-Op.expr c.in-Op.next regs old.memory) (λ fr. refl) (λ fr. refl) c.operate.ensures.made)
 
 pub returns-in_ok-print-in-Print-clause-made : goal.returns-in_ok-print-in-Print-clause-made
 unfolding state_of step_of effect base_marks effect_marks
 returns-in_ok-print-in-Print-clause-made c =
     let old = c.args.self.now in
     rw (c.in-Print.is, c.from-in-Print.ensures, c.in_ok-print-in-Print.ensures.running)
-        (base_by (base.Print c.in-Print.value c.in-Print.next) _ _ _ Running
-        (λ regs. On c.in-Print.next regs old.memory (operand_value regs c.in-Print.value ∷ [])) (λ fr. refl) (λ fr. refl)
-        (ap Continues c.in_ok-print-in-Print.ensures.made))
+    (base_by (base.Print c.in-Print.value c.in-Print.next) _ _ _ Running
+    (λ regs. On c.in-Print.next regs old.memory (operand_value regs c.in-Print.value ∷ [])) (λ fr. refl) (λ fr. refl)
+    (ap Continues c.in_ok-print-in-Print.ensures.made))
 
 pub returns-in-Load-clause-made : goal.returns-in-Load-clause-made
 unfolding state_of step_of effect base_marks effect_marks
 returns-in-Load-clause-made c =
     let old = c.args.self.now in
     rw (c.in-Load.is, c.from-in-Load.ensures)
-        (base_by (base.Load c.in-Load.dest c.in-Load.address c.in-Load.next) _ _ _ c.load.result
-        (λ regs. load_effect c.in-Load.dest (operand_value regs c.in-Load.address) c.in-Load.next regs old.memory) (λ fr. refl)
-        (λ fr. refl) c.load.ensures.made)
+    (base_by (base.Load c.in-Load.dest c.in-Load.address c.in-Load.next) _ _ _ c.load.result
+    (λ regs. load_effect c.in-Load.dest (operand_value regs c.in-Load.address) c.in-Load.next regs old.memory) (λ fr. refl)
+    (λ fr. refl) c.load.ensures.made)
 
 pub returns-in-Store-clause-made : goal.returns-in-Store-clause-made
 unfolding state_of step_of effect base_marks effect_marks
 returns-in-Store-clause-made c =
     let old = c.args.self.now in
     rw (c.in-Store.is, c.from-in-Store.ensures)
-        (base_by (base.Store c.in-Store.address c.in-Store.value c.in-Store.next) _ _ _ c.store.result
-        (λ regs. store_effect (operand_value regs c.in-Store.address) (operand_value regs c.in-Store.value) c.in-Store.next regs old.memory) (λ fr. refl)
-        (λ fr. refl) c.store.ensures.made)
+    (base_by (base.Store c.in-Store.address c.in-Store.value c.in-Store.next) _ _ _ c.store.result
+    (λ regs. store_effect (operand_value regs c.in-Store.address) (operand_value regs c.in-Store.value) c.in-Store.next regs old.memory) (λ fr. refl)
+    (λ fr. refl) c.store.ensures.made)
 
 pub returns-in_ok-call-in-Call-clause-made : goal.returns-in_ok-call-in-Call-clause-made
 unfolding state_of
@@ -79,7 +79,7 @@ unfolding state_of step_of
 returns-in-Fail-clause-made c =
     let old = c.args.self.now in
     rw (c.in-Fail.is, c.from-in-Fail.ensures, c.end.ensures.ended)
-        (base_fails c.in-Fail.text c.args.function c.args.label _ _ _ c.requires.position c.end.ensures.same)
+    (base_fails c.in-Fail.text c.args.function c.args.label _ _ _ c.requires.position c.end.ensures.same)
 
 pub returns-in_err-call-in-Call-clause-only_then : goal.returns-in_err-call-in-Call-clause-only_then
 unfolding effect

@@ -18,41 +18,41 @@ unfolding state_of step_of version_effect
 returns-in-Nop-clause-made c =
     let old = c.args.self.now in
     rw (c.in-Nop.is, c.from.ensures, c.go_to.ensures.running)
-        (version_by (version.Nop c.in-Nop.next) _ _ _ Running (λ regs. On c.in-Nop.next regs old.memory []) (λ regs. refl) (ap Continues c.go_to.ensures.made))
+    (version_by (version.Nop c.in-Nop.next) _ _ _ Running (λ regs. On c.in-Nop.next regs old.memory []) (λ regs. refl) (ap Continues c.go_to.ensures.made))
 
 pub returns-in-Op-clause-made : goal.returns-in-Op-clause-made
 unfolding state_of step_of version_effect
 returns-in-Op-clause-made c =
     let old = c.args.self.now in
     rw (c.in-Op.is, c.from-in-Op.ensures)
-        (version_by (version.Op c.in-Op.dest c.in-Op.expr c.in-Op.next) _ _ _ c.operate.result
-        (λ regs. op_effect c.in-Op.dest c.in-Op.expr c.in-Op.next regs old.memory) (λ regs. refl) c.operate.ensures.made)
+    (version_by (version.Op c.in-Op.dest c.in-Op.expr c.in-Op.next) _ _ _ c.operate.result
+    (λ regs. op_effect c.in-Op.dest c.in-Op.expr c.in-Op.next regs old.memory) (λ regs. refl) c.operate.ensures.made)
 
 pub returns-in_ok-print-in-Print-clause-made : goal.returns-in_ok-print-in-Print-clause-made
 unfolding state_of step_of version_effect
 returns-in_ok-print-in-Print-clause-made c =
     let old = c.args.self.now in
     rw (c.in-Print.is, c.from-in-Print.ensures, c.in_ok-print-in-Print.ensures.running)
-        (version_by (version.Print c.in-Print.value c.in-Print.next) _ _ _ Running
-        (λ regs. On c.in-Print.next regs old.memory (operand_value regs c.in-Print.value ∷ [])) (λ regs. refl)
-        (ap Continues c.in_ok-print-in-Print.ensures.made))
+    (version_by (version.Print c.in-Print.value c.in-Print.next) _ _ _ Running
+    (λ regs. On c.in-Print.next regs old.memory (operand_value regs c.in-Print.value ∷ [])) (λ regs. refl)
+    (ap Continues c.in_ok-print-in-Print.ensures.made))
 
 pub returns-in-Load-clause-made : goal.returns-in-Load-clause-made
 unfolding state_of step_of version_effect
 returns-in-Load-clause-made c =
     let old = c.args.self.now in
     rw (c.in-Load.is, c.from-in-Load.ensures)
-        (version_by (version.Load c.in-Load.dest c.in-Load.address c.in-Load.next) _ _ _ c.load.result
-        (λ regs. load_effect c.in-Load.dest (operand_value regs c.in-Load.address) c.in-Load.next regs old.memory) (λ regs. refl) c.load.ensures.made)
+    (version_by (version.Load c.in-Load.dest c.in-Load.address c.in-Load.next) _ _ _ c.load.result
+    (λ regs. load_effect c.in-Load.dest (operand_value regs c.in-Load.address) c.in-Load.next regs old.memory) (λ regs. refl) c.load.ensures.made)
 
 pub returns-in-Store-clause-made : goal.returns-in-Store-clause-made
 unfolding state_of step_of version_effect
 returns-in-Store-clause-made c =
     let old = c.args.self.now in
     rw (c.in-Store.is, c.from-in-Store.ensures)
-        (version_by (version.Store c.in-Store.address c.in-Store.value c.in-Store.next) _ _ _ c.store.result
-        (λ regs. store_effect (operand_value regs c.in-Store.address) (operand_value regs c.in-Store.value) c.in-Store.next regs old.memory)
-        (λ regs. refl) c.store.ensures.made)
+    (version_by (version.Store c.in-Store.address c.in-Store.value c.in-Store.next) _ _ _ c.store.result
+    (λ regs. store_effect (operand_value regs c.in-Store.address) (operand_value regs c.in-Store.value) c.in-Store.next regs old.memory)
+    (λ regs. refl) c.store.ensures.made)
 
 pub returns-in_ok-call-in-Call-clause-made : goal.returns-in_ok-call-in-Call-clause-made
 unfolding state_of
@@ -72,23 +72,23 @@ unfolding state_of step_of version_effect
 returns-in-Cond-clause-made c =
     let old = c.args.self.now in
     rw c.in-Cond.is (version_by (version.Cond c.in-Cond.test c.in-Cond.then_to c.in-Cond.else_to) _ _ _ Running
-        (λ regs. On (branch (operand_value regs c.in-Cond.test) c.in-Cond.then_to c.in-Cond.else_to) regs old.memory []) (λ regs. refl)
-        (ap Continues c.branch-edge.ensures.gone))
+    (λ regs. On (branch (operand_value regs c.in-Cond.test) c.in-Cond.then_to c.in-Cond.else_to) regs old.memory []) (λ regs. refl)
+    (ap Continues c.branch-edge.ensures.gone))
 
 pub returns-in-Move-clause-made : goal.returns-in-Move-clause-made
 unfolding state_of step_of version_effect
 returns-in-Move-clause-made c =
     let old = c.args.self.now in
     rw (c.in-Move.is, c.from-in-Move.ensures, c.assign.ensures.running)
-        (version_by (version.Move c.in-Move.pairs c.in-Move.next) _ _ _ Running (λ regs. On c.in-Move.next (moved regs c.in-Move.pairs regs) old.memory [])
-        (λ regs. refl) (ap Continues c.assign.ensures.made))
+    (version_by (version.Move c.in-Move.pairs c.in-Move.next) _ _ _ Running (λ regs. On c.in-Move.next (moved regs c.in-Move.pairs regs) old.memory [])
+    (λ regs. refl) (ap Continues c.assign.ensures.made))
 
 pub returns-in_err-call-in-Call-clause-only_then : goal.returns-in_err-call-in-Call-clause-only_then
 unfolding version_effect
 returns-in_err-call-in-Call-clause-only_then c =
     let old = c.args.self.now in
     rw c.in-Call.is (version_needs _
-        (version_effect (version.Call c.in-Call.dest c.in-Call.function c.in-Call.args c.in-Call.next) (active_regs old.activations.top) old.memory) tt)
+    (version_effect (version.Call c.in-Call.dest c.in-Call.function c.in-Call.args c.in-Call.next) (active_regs old.activations.top) old.memory) tt)
 
 pub returns-in_err-print-in-Print-clause-only_then : goal.returns-in_err-print-in-Print-clause-only_then
 unfolding version_effect
@@ -102,15 +102,15 @@ returns-in-Fail-clause-made c =
     let old = c.args.self.now in
     rw (c.in-Fail.is, c.from-in-Fail.ensures, c.end.ensures.ended)
     (version_by (version.Fail c.in-Fail.function c.in-Fail.label) _ _ _ (Ended (Failed c.in-Fail.function c.in-Fail.label))
-        (λ regs. Faults (FailedAt c.in-Fail.function c.in-Fail.label)) (λ regs. refl)
-        (ap (Finishes (Failed c.in-Fail.function c.in-Fail.label)) c.end.ensures.same))
+    (λ regs. Faults (FailedAt c.in-Fail.function c.in-Fail.label)) (λ regs. refl)
+    (ap (Finishes (Failed c.in-Fail.function c.in-Fail.label)) c.end.ensures.same))
 
 pub returns-in-Anchor-clause-made : goal.returns-in-Anchor-clause-made
 unfolding version_effect state_of step_of
 returns-in-Anchor-clause-made c =
     rw (c.in-Anchor.is, c.from-in-Anchor.ensures, c.pass.ensures.running)
-        (version_passes_by (version.Anchor c.in-Anchor.back c.in-Anchor.target c.in-Anchor.next) _ _ _ c.in-Anchor.back c.in-Anchor.target c.in-Anchor.next
-        refl c.pass.ensures.made)
+    (version_passes_by (version.Anchor c.in-Anchor.back c.in-Anchor.target c.in-Anchor.next) _ _ _ c.in-Anchor.back c.in-Anchor.target c.in-Anchor.next
+    refl c.pass.ensures.made)
 
 pub returns-in_ok-assume-in-Assume-clause-made : goal.returns-in_ok-assume-in-Assume-clause-made
 unfolding state_of

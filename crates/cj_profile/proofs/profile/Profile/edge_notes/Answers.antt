@@ -9,7 +9,7 @@ use Rattle.cj_profile.proofs.profile.Profile.edge_notes.Goals as goal
 pub returns-in_err-push-clause-loads : goal.returns-in_err-push-clause-loads
 returns-in_err-push-clause-loads c =
     note_keeps (edge_loads c.args.f) (edge_keeps c.args.f) c.args.seat.now c.loop-label.seat c.edge_note-note.new.seat c.loop-label.notes c.loop-label.label
-        c.edge_note-note.result c.loop-label.invariant.reads c.edge_note-note.ensures.reads
+    c.edge_note-note.result c.loop-label.invariant.reads c.edge_note-note.ensures.reads
 
 pub loop-label-preserved : goal.loop-label-preserved
 loop-label-preserved c =

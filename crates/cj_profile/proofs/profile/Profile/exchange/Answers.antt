@@ -11,9 +11,12 @@ compare_exchange-requires c =
     let w = c.args.word in
     let few = c.args.self.now.limited in
     let within = inside p w few c.requires.word in
-    let e = c.index.ensures in
-    (search rules, omega (arith, c.args.self.now.sized),
-        exchanges _ _ _ _ _ c.requires.own.live _ _ (λ f lt z. apart p w few c.requires.word c.requires.free f (sym e ∙ z)))
+    let e = c.index.ensures in (
+      search rules,
+      omega (arith, c.args.self.now.sized),
+      exchanges _ _ _ _ _ c.requires.own.live _ _
+          (λ f lt z. apart p w few c.requires.word c.requires.free f (sym e ∙ z)),
+    )
 
 pub returns-clause-own : goal.returns-clause-own
 returns-clause-own c =
@@ -22,4 +25,4 @@ returns-clause-own c =
     let e = c.index.ensures in
     let lt : c.index.result < word_count p = omega arith in
     belongs_on c.args.self.now c.args.seat.now _ c.index.result (Some c.compare_exchange.result) _ lt c.requires.own c.compare_exchange.ensures.0
-        c.compare_exchange.ensures.2.0.0 c.compare_exchange.ensures.2.1
+    c.compare_exchange.ensures.2.0.0 c.compare_exchange.ensures.2.1

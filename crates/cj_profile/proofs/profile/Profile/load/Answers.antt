@@ -29,4 +29,4 @@ returns-clause-own c =
     let e = c.index.ensures in
     let lt : c.index.result < word_count p = omega arith in
     belongs_on c.args.self.now c.args.seat.now _ c.index.result (Some c.load.result) c.load.result lt c.requires.own c.load.ensures.0 c.load.ensures.2.0.0
-        c.load.ensures.2.2
+    c.load.ensures.2.2

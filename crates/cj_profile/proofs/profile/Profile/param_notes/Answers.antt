@@ -9,7 +9,7 @@ use Rattle.cj_profile.proofs.profile.Profile.param_notes.Goals as goal
 pub returns-in_err-push-clause-loads : goal.returns-in_err-push-clause-loads
 returns-in_err-push-clause-loads c =
     note_keeps (param_loads c.args.f) (param_keeps c.args.f) c.args.seat.now c.loop-param.seat c.param_note-note.new.seat c.loop-param.notes c.loop-param.param
-        c.param_note-note.result c.loop-param.invariant.reads c.param_note-note.ensures.reads
+    c.param_note-note.result c.loop-param.invariant.reads c.param_note-note.ensures.reads
 
 pub loop-param-preserved : goal.loop-param-preserved
 loop-param-preserved c =

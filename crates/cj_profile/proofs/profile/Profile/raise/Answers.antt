@@ -21,4 +21,4 @@ returns-clause-own c =
     let e = c.index.ensures in
     let lt : c.index.result < word_count p = omega arith in
     belongs_on c.args.self.now c.args.seat.now _ c.index.result (Some c.fetch_max.result) _ lt c.requires.own c.fetch_max.ensures.0 c.fetch_max.ensures.2.0.0
-        c.fetch_max.ensures.2.1
+    c.fetch_max.ensures.2.1

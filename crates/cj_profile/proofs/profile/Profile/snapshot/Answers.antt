@@ -27,7 +27,7 @@ returns-in_err-edges-clause-loads c =
     keeps_on s0 s3 s4
     (keeps_on s0 s2 s3
     (keeps_on s0 s1 s2 (load_keeps s0 s1 (Calls f) c.load-calls.result c.load-calls.ensures.reads)
-        (load_keeps s1 s2 (Failures f) c.load-fails.result c.load-fails.ensures.reads))
+    (load_keeps s1 s2 (Failures f) c.load-fails.result c.load-fails.ensures.reads))
     c.param_notes.ensures.loads)
     c.edge_notes.ensures.loads
 
@@ -42,6 +42,6 @@ returns-clause-loads c =
     keeps_on s0 s3 s4
     (keeps_on s0 s2 s3
     (keeps_on s0 s1 s2 (load_keeps s0 s1 (Calls f) c.load-calls.result c.load-calls.ensures.reads)
-        (load_keeps s1 s2 (Failures f) c.load-fails.result c.load-fails.ensures.reads))
+    (load_keeps s1 s2 (Failures f) c.load-fails.result c.load-fails.ensures.reads))
     c.param_notes.ensures.loads)
     c.edge_notes.ensures.loads

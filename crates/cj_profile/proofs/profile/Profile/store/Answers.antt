@@ -11,9 +11,12 @@ store-requires c =
     let w = c.args.word in
     let few = c.args.self.now.limited in
     let within = inside p w few c.requires.word in
-    let e = c.index.ensures in
-    (search rules, omega (arith, c.args.self.now.sized),
-        stores _ _ _ _ _ c.requires.own.live _ (λ f lt z. apart p w few c.requires.word c.requires.free f (sym e ∙ z)))
+    let e = c.index.ensures in (
+      search rules,
+      omega (arith, c.args.self.now.sized),
+      stores _ _ _ _ _ c.requires.own.live _
+          (λ f lt z. apart p w few c.requires.word c.requires.free f (sym e ∙ z)),
+    )
 
 pub returns-clause-own : goal.returns-clause-own
 returns-clause-own c =

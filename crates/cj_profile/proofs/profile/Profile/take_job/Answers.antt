@@ -14,7 +14,7 @@ returns-in-Some-clause-reads c =
     let k : ℕ = c.loop-number.number in
     let part = c.take_level.ensures.reads in
     let count : length c.items-number-end.result.now ≡ n = ap length c.items-number-end.ensures
-        ∙ (ap length c.args.self.now.shaped ∙ length-map c.args.self.now.table.shared.key.functions shape_of) in
+    ∙ (ap length c.args.self.now.shaped ∙ length-map c.args.self.now.table.shared.key.functions shape_of) in
     let lt : k < n = omega arith in (
       i.reads.0 ++ part.0,
       i.reads.2 c.in-Some.answer part.0 (takes_here n k c.in-Some.answer part.0 lt (subst (λ o. TakesLevel (numbered k) o part.0) c.in-Some.is part.1)),
@@ -28,7 +28,7 @@ loop-number-preserved c =
     let k : ℕ = c.loop-number.number in
     let part = c.take_level.ensures.reads in
     let count : length c.items-number-end.result.now ≡ n = ap length c.items-number-end.ensures
-        ∙ (ap length c.args.self.now.shaped ∙ length-map c.args.self.now.table.shared.key.functions shape_of) in
+    ∙ (ap length c.args.self.now.shaped ∙ length-map c.args.self.now.table.shared.key.functions shape_of) in
     let lt : k < n = omega arith in
     record {
       own = c.take_level.ensures.own;
@@ -48,7 +48,7 @@ returns-clause-reads c =
     let n : ℕ = length c.args.self.now.table.shared.key.functions in
     let k : ℕ = c.loop-number.number in
     let count : length c.items-number-end.result.now ≡ n = ap length c.items-number-end.ensures
-        ∙ (ap length c.args.self.now.shaped ∙ length-map c.args.self.now.table.shared.key.functions shape_of) in
+    ∙ (ap length c.args.self.now.shaped ∙ length-map c.args.self.now.table.shared.key.functions shape_of) in
     let le : n ≤ k = omega arith in (
       i.reads.0,
       subst (TakesJob n 0 NoneAsked) (append-nil i.reads.0) (i.reads.2 NoneAsked [] (takes_none n k le)),
@@ -62,7 +62,7 @@ returns-in-Some-clause-answer c =
     let k : ℕ = c.loop-number.number in
     let part = c.take_level.ensures.reads in
     let count : length c.items-number-end.result.now ≡ n = ap length c.items-number-end.ensures
-        ∙ (ap length c.args.self.now.shaped ∙ length-map c.args.self.now.table.shared.key.functions shape_of) in
+    ∙ (ap length c.args.self.now.shaped ∙ length-map c.args.self.now.table.shared.key.functions shape_of) in
     let lt : k < n = omega arith in
     let one = takes_here n k c.in-Some.answer part.0 lt (subst (λ o. TakesLevel (numbered k) o part.0) c.in-Some.is part.1) in
     answers_of c.args.self.now.table.shared.key n 0 c.in-Some.answer (i.reads.0 ++ part.0) (omega arith) (i.reads.2 c.in-Some.answer part.0 one)

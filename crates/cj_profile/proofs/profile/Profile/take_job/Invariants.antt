@@ -11,5 +11,5 @@ invariant-loop-number l = record {
   same : IsSame l.fn.seat l.seat;
   reads : (front : List Read) × Adds front l.fn.seat l.seat
       × ((answer : JobAnswer) (rest : List Read) → TakesJob (length (program_of l.self).functions - l.number) l.number answer rest →
-          TakesJob (length (program_of l.self).functions) 0 answer (front ++ rest));
+      TakesJob (length (program_of l.self).functions) 0 answer (front ++ rest));
 }

@@ -12,4 +12,4 @@ returns-clause-kept c = λ n.
     let none : is_some c.callee.result ≡ false = rw c.is_some.ensures at c.if-is_some.false in
     c.in_ok-insert.ensures.updates.0 key
     ∙ added (function_in c.args.self.now n) (bytes_eq c.args.name.now n) new
-        (λ same. absent_named c.args.self.now c.args.name.now n c.callee.result c.callee.ensures none same)
+    (λ same. absent_named c.args.self.now c.args.name.now n c.callee.result c.callee.ensures none same)

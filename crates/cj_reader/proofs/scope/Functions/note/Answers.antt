@@ -9,4 +9,4 @@ returns-clause-listed c = λ heads h.
     let head : Head = record { name = c.args.name.now; params = c.args.params } in
     let count : c.in_ok-next.next ≡ c.args.self.now.count + 1 = sym (ok_same c.in_ok-next.ensures) in
     lists_functions heads head c.args.self.now (record { callees = c.keep_first.new.self.callees; count = c.in_ok-next.next }) h count
-        c.in_ok-keep_first.ensures.kept
+    c.in_ok-keep_first.ensures.kept

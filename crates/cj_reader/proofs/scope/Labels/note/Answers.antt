@@ -8,4 +8,4 @@ pub returns-clause-listed : goal.returns-clause-listed
 returns-clause-listed c = λ numbers h.
     let count : c.in_ok-next.next ≡ c.args.self.now.count + 1 = sym (ok_same c.in_ok-next.ensures) in
     lists_lines numbers c.args.number c.args.self.now (record { places = c.keep_first.new.self.places; count = c.in_ok-next.next }) h count
-        (rw (to_z-of_z w64 c.args.number c.ranges.number) at c.in_ok-keep_first.ensures.kept)
+    (rw (to_z-of_z w64 c.args.number c.ranges.number) at c.in_ok-keep_first.ensures.kept)

@@ -33,8 +33,8 @@ pub returns-then-is_passed-clause-left : goal.returns-then-is_passed-clause-left
 unfolding left stream
 returns-then-is_passed-clause-left c = left_past c.args.self.now.is_past_end c.args.self.now.bytes.now (placed c.args.self.now.ahead)
     (placed c.behind-self.result)
-    (given_passed c.args.self.now.bytes.now (placed c.args.self.now.ahead) (placed c.behind-self.result)
-    (sym c.is_passed.ensures ∙ c.if-is_passed.true) c.behind-self.ensures.found)
+    (given_passed c.args.self.now.bytes.now (placed c.args.self.now.ahead) (placed c.behind-self.result) (sym c.is_passed.ensures
+    ∙ c.if-is_passed.true) c.behind-self.ensures.found)
 
 pub returns-else-is_passed-clause-answer : goal.returns-else-is_passed-clause-answer
 unfolding stream
