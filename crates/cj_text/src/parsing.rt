@@ -1,7 +1,7 @@
 //! Inputs from their bytes.
 
 ghost use Rattle.std.specs.Prelude.{◌≡◌, Ok, Err, IfOk, IfErr, List, ℕ};
-ghost use Rattle.cj_tokens.specs.Left.{left};
+ghost use Rattle.cj_tokens.specs.Left.{left, source};
 ghost use Rattle.cj_grammar.specs.Grammar.{Tree, leaves, IsSentence};
 ghost use Rattle.cj_grammar.specs.Rules.{input};
 ghost use Rattle.cj_grammar.specs.Sentences.{Agrees};
@@ -40,6 +40,7 @@ pub fn parse(alloc: Global, bytes: &[u8]) -> Result<Input, ParseError>
 fn read_input(alloc: Global, tokens: &mut Tokens<'_>) -> Result<Input, ParseError>
     requires { IsSentence input (left tokens.old) }
     ensures read { (tree : Tree input) → leaves input tree ≡ left tokens.old → Agrees result (input_offences tree) (input_of tree) }
+    ensures source { source tokens.new ≡ source tokens.old }
     ensures fits { IfOk result (λ input. FitsScript input.checked input.script) }
 {
     let checked = match read_program(alloc, tokens) {
