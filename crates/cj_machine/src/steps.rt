@@ -1,4 +1,4 @@
-//! One instruction of a base frame, and of a version, as far as it asks no watch.
+//! One instruction of a base frame, and of a version, but for what it leaves to do.
 
 ghost use Rattle.std.specs.Prelude.{◌≡◌, ◌<◌, ◌≤◌, length, map, slice_set, [], ℤ, List, All, IfOk, IfErr, OnOk, OnErr};
 ghost use Rattle.cj_ir.specs.WellFormed.{IsInstrFine};
