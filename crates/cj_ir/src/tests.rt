@@ -189,7 +189,8 @@ fn lists_grow_and_are_copied(rt: HostRuntime) -> Result<(), Fail> {
     let twin = values.copy()?;
     assert_eq!(rt; values.try_push(9), Ok(()));
     values.set(0, 4);
-    assert_eq!(rt; values.items(), [4, 7, 8, 9].as_slice());
+    *values.item_mut(1) += 10;
+    assert_eq!(rt; values.items(), [4, 17, 8, 9].as_slice());
     assert_eq!(rt; values.pop(), Some(9));
     assert_eq!(rt; twin.items(), [6, 7, 8].as_slice());
     let call = ScriptCall {
