@@ -5,7 +5,7 @@ ghost use Rattle.cj_assume.specs.ImmediateAssume.{assume_offence, appended, inse
 ghost use Rattle.cj_draft.specs.declared.limits.TheConstants.{MAX_CODE_LABELS};
 
 use crate::offences::{assume_offence, guards_at};
-use crate::places::{anchor_to, assume_of, with_more};
+use crate::places::{append_guards, assume_of, lead_anchor};
 use cj_draft::{Code, Draft, Skipped};
 use cj_ir::{Guards, Label, NoMemory};
 use cj_rows::{anchor_at, with_instr};
@@ -54,29 +54,22 @@ pub(crate) fn assumed(code: Code, anchor: Label, guards: &Guards) -> Result<Code
 }
 
 /// The code with the guards appended to those of the Assume at a label.
-#[tactic(auto, unfolding(crate::specs::ImmediateAssume::appended, crate::specs::ImmediateAssume::appended_in, cj_rows::specs::Places::with_places))]
-fn appended(code: Code, label: Label, guards: &Guards) -> Result<Code, NoMemory>
+#[tactic(auto, unfolding(crate::specs::ImmediateAssume::appended, crate::specs::ImmediateAssume::appended_in, cj_rows::specs::Places::with_instr, cj_rows::specs::Places::with_places))]
+fn appended(mut code: Code, label: Label, guards: &Guards) -> Result<Code, NoMemory>
     ensures { IfOk result (λ made. made ≡ appended code label guards.now) }
 {
     let index = label.0 as usize;
-    let Some(place) = code.places.items().get(index) else {
+    if index >= code.places.items().len() {
         return Ok(code);
-    };
-    let assume = with_more(&place.instr, guards.items())?;
-    let assume = with_instr(place, assume)?;
-    let mut places = code.places;
-    places.set(index, assume);
-    Ok(Code {
-        function: code.function,
-        regs: code.regs,
-        entry: code.entry,
-        places,
-    })
+    }
+    let place = code.places.item_mut(index);
+    append_guards(&mut place.instr, guards.items())?;
+    Ok(code)
 }
 
 /// The code with a fresh Assume directly after the Anchor at a label.
-#[tactic(auto, unfolding(crate::specs::ImmediateAssume::inserted, crate::specs::ImmediateAssume::inserted_in, cj_draft::specs::Edges::fresh_label, cj_rows::specs::Places::with_places))]
-fn inserted(code: Code, anchor: Label, guards: &Guards) -> Result<Code, NoMemory>
+#[tactic(auto, unfolding(crate::specs::ImmediateAssume::inserted, crate::specs::ImmediateAssume::inserted_in, cj_draft::specs::Edges::fresh_label, cj_rows::specs::Places::with_instr, cj_rows::specs::Places::with_places))]
+fn inserted(mut code: Code, anchor: Label, guards: &Guards) -> Result<Code, NoMemory>
     requires few { length code.places ≤ MAX_CODE_LABELS }
     ensures { IfOk result (λ made. made ≡ inserted code anchor guards.now) }
 {
@@ -86,14 +79,8 @@ fn inserted(code: Code, anchor: Label, guards: &Guards) -> Result<Code, NoMemory
     };
     let fresh = Label(code.places.items().len() as u32);
     let assume = with_instr(place, assume_of(&place.instr, guards)?)?;
-    let led = with_instr(place, anchor_to(&place.instr, fresh)?)?;
-    let mut places = code.places;
-    places.set(index, led);
-    places.push(assume)?;
-    Ok(Code {
-        function: code.function,
-        regs: code.regs,
-        entry: code.entry,
-        places,
-    })
+    let led = code.places.item_mut(index);
+    lead_anchor(&mut led.instr, fresh);
+    code.places.push(assume)?;
+    Ok(code)
 }

@@ -1,62 +1,39 @@
 //! The instructions that an immediate Assume makes.
 
-ghost use Rattle.std.specs.Prelude.{◌≡◌, ◌<◌, ◌++◌, IfOk, length};
+ghost use Rattle.std.specs.Prelude.{◌≡◌, ◌<◌, ◌++◌, IfOk, OnOk, length};
 ghost use Rattle.cj_assume.specs.ImmediateAssume.{with_more, anchor_to, assume_of};
 
 use cj_draft::VInstr;
 use cj_ir::{Duplicate, Guard, Guards, Label, NoMemory};
 
-/// The Assume with further guards, after its own.
+/// Appends further guards to those of an Assume.
 #[tactic(auto, unfolding(crate::specs::ImmediateAssume::with_more))]
-pub(crate) fn with_more(instr: &VInstr, more: &[Guard]) -> Result<VInstr, NoMemory>
-    ensures { IfOk result (λ made. made ≡ with_more more.now instr.now) }
+pub(crate) fn append_guards(instr: &mut VInstr, more: &[Guard]) -> Result<(), NoMemory>
+    ensures { OnOk result (instr.new ≡ with_more more.now instr.old) }
 {
     match instr {
-        VInstr::Assume {
-            guards,
-            back,
-            target,
-            next,
-        } => {
-            let guards = joined(guards, more)?;
-            let target = target.copy()?;
-            Ok(VInstr::Assume {
-                guards,
-                back: *back,
-                target,
-                next: *next,
-            })
-        }
-        other => other.copy(),
+        VInstr::Assume { guards, .. } => append(guards, more),
+        _ => Ok(()),
     }
 }
 
-/// The guards, and further ones after them.
-fn joined(guards: &Guards, more: &[Guard]) -> Result<Guards, NoMemory>
-    ensures { IfOk result (λ made. made ≡ guards.now ++ more.now) }
+/// Appends further guards.
+fn append(guards: &mut Guards, more: &[Guard]) -> Result<(), NoMemory>
+    ensures { OnOk result (guards.new ≡ guards.old ++ more.now) }
 {
-    let mut all = guards.copy()?;
     for guard in more {
-        all.push(*guard)?;
+        guards.push(*guard)?;
     }
-    Ok(all)
+    Ok(())
 }
 
-/// The Anchor with another next label.
+/// Gives an Anchor another next label.
 #[tactic(auto, unfolding(crate::specs::ImmediateAssume::anchor_to))]
-pub(crate) fn anchor_to(instr: &VInstr, next: Label) -> Result<VInstr, NoMemory>
-    ensures { IfOk result (λ made. made ≡ anchor_to next instr.now) }
+pub(crate) fn lead_anchor(instr: &mut VInstr, to: Label)
+    ensures { instr.new ≡ anchor_to to instr.old }
 {
-    match instr {
-        VInstr::Anchor { back, target, .. } => {
-            let target = target.copy()?;
-            Ok(VInstr::Anchor {
-                back: *back,
-                target,
-                next,
-            })
-        }
-        other => other.copy(),
+    if let VInstr::Anchor { next, .. } = instr {
+        *next = to;
     }
 }
 

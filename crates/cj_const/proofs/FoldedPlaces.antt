@@ -1,39 +1,65 @@
 -- Places folded one after the other.
-use Rattle.std.proofs.Common.{◌≡◌, ℕ, zero, suc, ◌+◌, ◌<◌, ◌≤◌, List, [], ◌∷◌, ◌++◌, length, take, get_or, Some, refl, sym, ap, ap₂, ◌∙◌, subst, arith}
-use Rattle.std.specs.Prelude.{slice_get, slice_index_or}
-use Rattle.std.proofs.lemmas.Option.{none-some, same_Some}
+use Rattle.std.proofs.Common.{◌≡◌, ℕ, zero, suc, ◌+◌, ◌<◌, List, [], ◌∷◌, ◌++◌, length, take, drop, get_or, Some, refl, sym, ap, ap₂, ◌∙◌, subst, arith}
+use Rattle.std.specs.Prelude.{slice_get, slice_set, slice_index_or}
+use Rattle.std.proofs.lemmas.Option.{none-some, same_Some, slice_get_within, slice_get-get_or}
+use Rattle.cj_ir.proofs.ListReads.{at_index}
 use Rattle.cj_draft.specs.declared.facts.Facts.{Facts}
 use Rattle.cj_draft.specs.declared.facts.Facts.TheVariants.{Unreached}
 use Rattle.cj_draft.specs.declared.code.Place.{Place}
 use Rattle.cj_const.specs.Folding.{folded_place, folded_places}
 
-take-all : {X : Type 0} (xs : List X) (n : ℕ) → length xs ≤ n → take n xs ≡ xs
-take-all [] zero h = refl
-take-all [] (suc n) h = refl
-take-all (x ∷ xs) zero h = absurd (omega arith)
-take-all (x ∷ xs) (suc n) h = ap (λ ys. x ∷ ys) (take-all xs n (omega arith))
+-- the places of which the first ones, so many, are folded
+abbrev pub folded_upto : ℕ → List Place → List Facts → ℕ → List Place
+folded_upto n places table i = folded_places n (take i places) (take i table) ++ drop i places
 
-places-next : (n : ℕ) (places : List Place) (table : List Facts) (i : ℕ) (d : Place) (e : Facts) → i < length places → i < length table → folded_places n (take (suc i) places) (take (suc i) table) ≡ folded_places n (take i places) (take i table) ++ folded_place n (get_or places i d) (get_or table i e) ∷ []
+pub none-folded : (n : ℕ) (places : List Place) (table : List Facts) → folded_upto n places table 0 ≡ places
 unfolding folded_places
-places-next n [] table i d e h h' = absurd (omega arith)
-places-next n (place ∷ places) [] i d e h h' = absurd (omega arith)
-places-next n (place ∷ places) (facts ∷ table) zero d e h h' = refl
-places-next n (place ∷ places) (facts ∷ table) (suc i) d e h h' =
-    ap (λ (made : List Place). folded_place n place facts ∷ made) (places-next n places table i d e (omega arith) (omega arith))
+none-folded n places table = refl
 
-pub places-more : (n : ℕ) (places : List Place) (table : List Facts) (i : ℕ) (d : Place) (e : Facts) (made new : List Place) (x : Place) → i < length places → length table ≡ length places → made ≡ folded_places n (take i places) (take i table) → new ≡ made ++ x ∷ [] → x ≡ folded_place n (get_or places i d) (get_or table i e) → new ≡ folded_places n (take (i + 1) places) (take (i + 1) table)
-places-more n places table i d e made new x h count is pushed at =
+-- the next place is as it was
+pub next-unfolded : (n : ℕ) (places : List Place) (table : List Facts) (i : ℕ) → length table ≡ length places
+    → slice_get (folded_upto n places table i) i ≡ slice_get places i
+unfolding folded_places
+next-unfolded n places table zero count = refl
+next-unfolded n [] [] (suc i) count = refl
+next-unfolded n [] (facts ∷ table) (suc i) count = absurd (omega arith)
+next-unfolded n (place ∷ places) [] (suc i) count = absurd (omega arith)
+next-unfolded n (place ∷ places) (facts ∷ table) (suc i) count = next-unfolded n places table i (omega arith)
+
+pub next-folded : (n : ℕ) (places : List Place) (table : List Facts) (i : ℕ) (p : Place) (fs : Facts) → length table ≡ length places
+    → slice_get places i ≡ Some p → slice_get table i ≡ Some fs
+    → slice_set (folded_upto n places table i) i (folded_place n p fs) ≡ folded_upto n places table (suc i)
+unfolding folded_places
+next-folded n [] table i p fs count at known = absurd (none-some p at)
+next-folded n (place ∷ places) [] i p fs count at known = absurd (none-some fs known)
+next-folded n (place ∷ places) (facts ∷ table) zero p fs count at known =
+    ap₂ (λ (q : Place) (gs : Facts). folded_place n q gs ∷ places) (sym (same_Some place p at)) (sym (same_Some facts fs known))
+next-folded n (place ∷ places) (facts ∷ table) (suc i) p fs count at known =
+    ap (λ (made : List Place). folded_place n place facts ∷ made) (next-folded n places table i p fs (omega arith) at known)
+
+-- ---- a list whose first places are folded
+
+pub next-within : (n : ℕ) (places : List Place) (table : List Facts) (i : ℕ) (now : List Place) → length table ≡ length places
+    → now ≡ folded_upto n places table i → i < length table → i < length now
+next-within n places table i now count is h =
+    let place = at_index places i (omega arith) in
+    subst (λ (ps : List Place). i < length ps) (sym is)
+    (slice_get_within (folded_upto n places table i) i place.0 (next-unfolded n places table i count ∙ place.1))
+
+pub next-place : (n : ℕ) (places : List Place) (table : List Facts) (i : ℕ) (now : List Place) (p : Place) → length table ≡ length places
+    → now ≡ folded_upto n places table i → slice_get now i ≡ Some p → slice_get places i ≡ Some p
+next-place n places table i now p count is at =
+    sym (next-unfolded n places table i count) ∙ ap (λ (ps : List Place). slice_get ps i) (sym is) ∙ at
+
+pub next-step : (n : ℕ) (places : List Place) (table : List Facts) (i : ℕ) (now : List Place) (p x : Place) (fs : Facts)
+    → length table ≡ length places → now ≡ folded_upto n places table i → i < length table → slice_get now i ≡ Some p
+    → fs ≡ get_or table i fs → x ≡ folded_place n p fs → slice_set now i x ≡ folded_upto n places table (i + 1)
+next-step n places table i now p x fs count is h at known made =
     let next : suc i ≡ i + 1 = omega arith in
-    subst (λ j. new ≡ folded_places n (take j places) (take j table)) next
-    (pushed ∙ ap₂ (λ (xs : List Place) (y : Place). xs ++ y ∷ []) is at ∙ sym (places-next n places table i d e h (omega arith)))
-
-pub places-none : (n : ℕ) (places : List Place) (table : List Facts) (made : List Place) → made ≡ [] → made ≡ folded_places n (take 0 places) (take 0 table)
-unfolding folded_places
-places-none n places table made e = e
-
-pub places-all : (n : ℕ) (places : List Place) (table : List Facts) (i : ℕ) (made : List Place) → length places ≤ i → length table ≡ length places → made ≡ folded_places n (take i places) (take i table) → made ≡ folded_places n places table
-places-all n places table i made h count is =
-    is ∙ ap₂ (folded_places n) (take-all places i h) (take-all table i (omega arith))
+    let facts : slice_get table i ≡ Some fs = slice_get-get_or table i fs h ∙ ap Some (sym known) in
+    ap₂ (λ (ps : List Place) (y : Place). slice_set ps i y) is made
+    ∙ next-folded n places table i p fs count (next-place n places table i now p count is at) facts
+    ∙ ap (folded_upto n places table) next
 
 -- ---- the place at a label
 

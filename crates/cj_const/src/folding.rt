@@ -1,17 +1,16 @@
 //! A draft folded over its strongest facts.
 
-ghost use Rattle.std.specs.Prelude.{◌≡◌, All, IfOk, length};
+ghost use Rattle.std.specs.Prelude.{◌≡◌, All, IfOk, OnOk, length};
 ghost use Rattle.cj_draft.specs.WellNamed.{HasFineFacts};
 ghost use Rattle.cj_const.specs.Flow.{IsStrongest};
 ghost use Rattle.cj_const.specs.Folding.{folded_by, folded_place, folded_places, folded, IsFolded};
 
 use crate::facts::together;
-use crate::instructions::folded_instr;
+use crate::instructions::fold_instr;
 use crate::knowledge::row_of;
 use crate::search::strongest;
 use cj_draft::{Code, Draft, Facts, Place, Places, VInstr};
-use cj_ir::{Duplicate, NoMemory};
-use std::alloc::Global;
+use cj_ir::NoMemory;
 
 /// The draft folded over its strongest facts. At each label with Known facts, registers with facts become constants in
 /// the operands; an op that has a value from constants becomes a copy of it, and a division by 0 stays; a cond whose test
@@ -44,79 +43,50 @@ pub fn fold_over<'p>(draft: Draft<'p>, table: &[Facts]) -> Result<Draft<'p>, NoM
 
 /// The code folded over a table of facts.
 #[tactic(auto, unfolding(crate::specs::Folding::folded))]
-fn folded(code: Code, table: &[Facts]) -> Result<Code, NoMemory>
+fn folded(mut code: Code, table: &[Facts]) -> Result<Code, NoMemory>
     requires count { length table.now ≡ length code.places }
     requires own { All (λ place. HasFineFacts code.regs place.facts) code.places }
     requires facts { All (HasFineFacts code.regs) table.now }
     ensures { IfOk result (λ made. made ≡ folded code table.now) }
 {
-    let places = folded_places(
-        code.places.allocator(),
-        code.places.items(),
-        table,
-        code.regs,
-    )?;
-    Ok(Code {
-        function: code.function,
-        regs: code.regs,
-        entry: code.entry,
-        places,
-    })
+    fold_places(&mut code.places, table, code.regs)?;
+    Ok(code)
 }
 
-/// Each place over the facts of its label.
-fn folded_places(
-    alloc: Global,
-    places: &[Place],
-    table: &[Facts],
-    regs: u32,
-) -> Result<Places, NoMemory>
-    requires count { length table.now ≡ length places.now }
-    requires own { All (λ place. HasFineFacts regs place.facts) places.now }
+/// Folds each place over the facts of its label.
+fn fold_places(places: &mut Places, table: &[Facts], regs: u32) -> Result<(), NoMemory>
+    requires count { length table.now ≡ length places.old }
+    requires own { All (λ place. HasFineFacts regs place.facts) places.old }
     requires facts { All (HasFineFacts regs) table.now }
-    ensures { IfOk result (λ made. made ≡ folded_places regs places.now table.now) }
+    ensures { OnOk result (places.new ≡ folded_places regs places.old table.now) }
 {
-    let mut made = Places::new(alloc);
-    for (label, place) in places.iter().enumerate() {
-        made.push(folded_place(place, &table[label], regs)?)?;
+    for (label, facts) in table.iter().enumerate() {
+        fold_place(places.item_mut(label), facts, regs)?;
     }
-    Ok(made)
+    Ok(())
 }
 
-/// The place over the facts of its label.
+/// Folds a place over the facts of its label.
 #[tactic(auto, unfolding(crate::specs::Folding::folded_place))]
-fn folded_place(place: &Place, facts: &Facts, regs: u32) -> Result<Place, NoMemory>
-    requires own { HasFineFacts regs place.now.facts }
+fn fold_place(place: &mut Place, facts: &Facts, regs: u32) -> Result<(), NoMemory>
+    requires own { HasFineFacts regs place.old.facts }
     requires facts { HasFineFacts regs facts.now }
-    ensures { IfOk result (λ made. made ≡ folded_place regs place.now facts.now) }
+    ensures { OnOk result (place.new ≡ folded_place regs place.old facts.now) }
 {
-    let instr = folded_by(facts, &place.instr, regs)?;
-    let facts = together(&place.facts, facts, regs)?;
-    let point = place.point.copy()?;
-    let backs = place.backs.copy()?;
-    Ok(Place {
-        instr,
-        point,
-        facts,
-        backs,
-    })
+    fold_by(facts, &mut place.instr, regs)?;
+    place.facts = together(&place.facts, facts, regs)?;
+    Ok(())
 }
 
-/// The instruction over the facts of its label. Where they are `Unreached` it stays.
+/// Folds an instruction over the facts of its label. Where they are `Unreached` it stays.
 #[tactic(auto, unfolding(crate::specs::Folding::folded_by))]
-fn folded_by(facts: &Facts, instr: &VInstr, regs: u32) -> Result<VInstr, NoMemory>
+fn fold_by(facts: &Facts, instr: &mut VInstr, regs: u32) -> Result<(), NoMemory>
     requires { HasFineFacts regs facts.now }
-    ensures { IfOk result (λ made. made ≡ folded_by facts.now instr.now) }
+    ensures { OnOk result (instr.new ≡ folded_by facts.now instr.old) }
 {
-    match facts {
-        Facts::Unreached => {
-            let same = instr.copy()?;
-            Ok(same)
-        }
-        Facts::Known(facts) => {
-            let row = row_of(facts.allocator(), facts.items(), regs)?;
-            let made = folded_instr(&row, instr)?;
-            Ok(made)
-        }
-    }
+    let Facts::Known(facts) = facts else {
+        return Ok(());
+    };
+    let row = row_of(facts.allocator(), facts.items(), regs)?;
+    fold_instr(&row, instr)
 }

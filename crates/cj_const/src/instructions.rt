@@ -1,6 +1,6 @@
 //! Instructions over what is known of their registers.
 
-ghost use Rattle.std.specs.Prelude.{◌≡◌, IfOk, map, List};
+ghost use Rattle.std.specs.Prelude.{◌≡◌, IfOk, OnOk, map, List};
 ghost use Rattle.std.specs.List.{list_any, filter};
 ghost use Rattle.cj_const.specs.Knowledge.{known, folded_operand};
 ghost use Rattle.cj_const.specs.Folding.{folded_expr, folded_pair, folded_cond, is_false, is_open, folded_guards, folded_instr};
@@ -10,7 +10,7 @@ use crate::knowledge::{
     Outcome, Row, evaluated, folded_operand, folded_operands, known, known_value,
 };
 use cj_draft::{Pair, Pairs, VInstr};
-use cj_ir::{Duplicate, Expr, Guard, Guards, Label, NoMemory, Operand, Operands};
+use cj_ir::{Expr, Guard, Guards, Label, NoMemory, Operand, Operands};
 
 /// The expression with constants in the place of known registers, or a copy of its value where it has one.
 #[tactic(auto, unfolding(crate::specs::Folding::folded_expr, crate::specs::Folding::copy_or))]
@@ -134,13 +134,12 @@ fn folded_guards(row: &Row, guards: &Guards) -> Result<Guards, NoMemory>
     Ok(made)
 }
 
-/// The instruction over what the row knows.
+/// Folds an instruction over what the row knows.
 #[tactic(auto, unfolding(crate::specs::Folding::folded_instr))]
-pub(crate) fn folded_instr(row: &Row, instr: &VInstr) -> Result<VInstr, NoMemory>
-    ensures { IfOk result (λ made. made ≡ folded_instr (known row.now) instr.now) }
+pub(crate) fn fold_instr(row: &Row, instr: &mut VInstr) -> Result<(), NoMemory>
+    ensures { OnOk result (instr.new ≡ folded_instr (known row.now) instr.old) }
 {
-    let mut made = instr.copy()?;
-    match &mut made {
+    match instr {
         VInstr::Op { expr, .. } => *expr = folded_expr(row, expr),
         VInstr::Move { pairs, .. } => *pairs = folded_pairs(row, pairs)?,
         VInstr::Cond {
@@ -149,7 +148,7 @@ pub(crate) fn folded_instr(row: &Row, instr: &VInstr) -> Result<VInstr, NoMemory
             else_to,
         } => {
             let value = known_value(row.items(), test);
-            made = folded_cond(*test, value, *then_to, *else_to);
+            *instr = folded_cond(*test, value, *then_to, *else_to);
         }
         VInstr::Call { args, .. } => *args = folded_args(row, args)?,
         VInstr::Return { value } => *value = folded_operand(row.items(), value),
@@ -162,5 +161,5 @@ pub(crate) fn folded_instr(row: &Row, instr: &VInstr) -> Result<VInstr, NoMemory
         VInstr::Assume { guards, .. } => *guards = folded_guards(row, guards)?,
         VInstr::Nop { .. } | VInstr::Fail { .. } | VInstr::Anchor { .. } => {}
     }
-    Ok(made)
+    Ok(())
 }

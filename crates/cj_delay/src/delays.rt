@@ -1,6 +1,6 @@
 //! An Assume at the end of a path that an Anchor begins.
 
-ghost use Rattle.std.specs.Prelude.{◌≡◌, ◌-◌, ◌<◌, ◌≤◌, cond, Some, IfOk, length};
+ghost use Rattle.std.specs.Prelude.{◌≡◌, ◌-◌, ◌<◌, ◌≤◌, cond, Some, IfOk, OnOk, length};
 ghost use Rattle.cj_draft.specs.declared.code.Place.{Place};
 ghost use Rattle.cj_draft.specs.declared.instructions.VInstr.TheVariants.{Assume};
 ghost use Rattle.cj_draft.specs.Arrives.{place_at};
@@ -14,7 +14,7 @@ use crate::edges::edge_lists;
 use crate::paths::{delay_offence, is_turn_at, on_path, turns_before};
 use cj_draft::{Code, Draft, Place, Point, Skipped, VInstr, led_to};
 use cj_ir::{Duplicate, Guards, Label, Labels, NoMemory};
-use cj_rows::{with_instr, with_pair};
+use cj_rows::{add_pair, with_pair};
 
 /// The draft with the guards assumed at the end of a path of labels, which an Anchor begins. A fresh label, the last one,
 /// stands on the path's last edge. It holds an Assume with the Anchor's target, and with a back that counts the Nops and
@@ -151,97 +151,52 @@ fn turns_at(code: &Code, label: Label) -> u32
 }
 
 /// The code in which a label has the pair of these turns and point.
-fn mark(code: Code, label: Label, turns: u32, target: &Point) -> Result<Code, NoMemory>
+fn mark(mut code: Code, label: Label, turns: u32, target: &Point) -> Result<Code, NoMemory>
     requires { label.0 < length code.places }
     ensures { IfOk result (IsMarkedAt code label (pair_of turns target.now)) }
 {
-    let index = label.0 as usize;
-    let place = marked_place(&code.places.items()[index], turns, target)?;
-    let mut places = code.places;
-    places.set(index, place);
-    Ok(Code {
-        function: code.function,
-        regs: code.regs,
-        entry: code.entry,
-        places,
-    })
+    mark_place(code.places.item_mut(label.0 as usize), turns, target)?;
+    Ok(code)
 }
 
-fn marked_place(place: &Place, turns: u32, target: &Point) -> Result<Place, NoMemory>
-    ensures { IfOk result (IsMarkedPlace (pair_of turns target.now) place.now) }
+/// Gives a place the pair of these turns and point, where it is missing.
+fn mark_place(place: &mut Place, turns: u32, target: &Point) -> Result<(), NoMemory>
+    ensures { OnOk result (IsMarkedPlace (pair_of turns target.now) place.old place.new) }
 {
-    let backs = with_pair(&place.backs, turns, target)?;
-    let instr = place.instr.copy()?;
-    let point = place.point.copy()?;
-    let facts = place.facts.copy()?;
-    Ok(Place {
-        instr,
-        point,
-        facts,
-        backs,
-    })
+    add_pair(&mut place.backs, turns, target)?;
+    Ok(())
 }
 
 /// The code with a fresh place, to which the edges from one label to another are led.
-fn led(code: Code, before: Label, last: Label, fresh: Place) -> Result<Code, NoMemory>
+fn led(mut code: Code, before: Label, last: Label, fresh: Place) -> Result<Code, NoMemory>
     requires few { length code.places ≤ MAX_CODE_LABELS }
     requires within { before.0 < length code.places }
     ensures { IfOk result (IsLed code before last fresh) }
 {
-    let index = before.0 as usize;
     let label = Label(code.places.items().len() as u32);
-    let from = &code.places.items()[index];
-    let instr = led_edge(&from.instr, last, label)?;
-    let place = with_instr(from, instr)?;
-    let mut places = code.places;
-    places.set(index, place);
-    places.push(fresh)?;
-    Ok(Code {
-        function: code.function,
-        regs: code.regs,
-        entry: code.entry,
-        places,
-    })
+    let from = code.places.item_mut(before.0 as usize);
+    lead_edge(&mut from.instr, last, label);
+    code.places.push(fresh)?;
+    Ok(code)
 }
 
-/// A Nop, Cond, Assume or Anchor whose edges to a label go to the fresh one.
+/// Leads the edges of a Nop, Cond, Assume or Anchor to a label to the fresh one.
 #[tactic(auto, unfolding(crate::specs::DelayedAssume::led_edge))]
-fn led_edge(instr: &VInstr, label: Label, fresh: Label) -> Result<VInstr, NoMemory>
-    ensures { IfOk result (λ made. made ≡ led_edge label fresh instr.now) }
+fn lead_edge(instr: &mut VInstr, label: Label, fresh: Label)
+    ensures { instr.new ≡ led_edge label fresh instr.old }
 {
     match instr {
-        VInstr::Nop { next } => Ok(VInstr::Nop {
-            next: led_to(label, fresh, *next),
-        }),
+        VInstr::Nop { next } => *next = led_to(label, fresh, *next),
         VInstr::Cond {
-            test,
             then_to,
             else_to,
-        } => Ok(VInstr::Cond {
-            test: *test,
-            then_to: led_to(label, fresh, *then_to),
-            else_to: led_to(label, fresh, *else_to),
-        }),
-        VInstr::Assume {
-            guards,
-            back,
-            target,
-            next,
+            ..
         } => {
-            let led = assume_to(guards, *back, target, led_to(label, fresh, *next))?;
-            Ok(led)
+            *then_to = led_to(label, fresh, *then_to);
+            *else_to = led_to(label, fresh, *else_to);
         }
-        VInstr::Anchor { back, target, next } => {
-            let target = target.copy()?;
-            Ok(VInstr::Anchor {
-                back: *back,
-                target,
-                next: led_to(label, fresh, *next),
-            })
-        }
-        other => {
-            let same = other.copy()?;
-            Ok(same)
-        }
+        VInstr::Assume { next, .. } => *next = led_to(label, fresh, *next),
+        VInstr::Anchor { next, .. } => *next = led_to(label, fresh, *next),
+        _ => {}
     }
 }

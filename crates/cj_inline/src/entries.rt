@@ -1,37 +1,29 @@
 //! The move that enters the callee.
 
 ghost use Rattle.std.specs.Prelude.{◌≡◌, ◌+◌, ◌<◌, ◌≤◌, IfOk};
-ghost use Rattle.cj_draft.specs.Inlining.{entry_pairs, call_place};
+ghost use Rattle.cj_draft.specs.Inlining.{entry_pairs};
+ghost use Rattle.cj_draft.specs.declared.instructions.VInstr.TheVariants.{Move};
 ghost use Rattle.cj_inline.specs.Entries.{entry_pair};
 ghost use Rattle.cj_draft.specs.declared.limits.TheConstants.{MAX_CODE_REGS};
 
-use cj_draft::{Pair, Pairs, Place, VInstr};
-use cj_ir::{Duplicate, Label, NoMemory, Operand, Reg};
+use cj_draft::{Pair, Pairs, VInstr};
+use cj_ir::{Label, NoMemory, Operand, Reg};
 use std::alloc::Global;
 
-/// The place of the call, which is now a move to the callee's entry: the callee's registers, so many after the caller's,
-/// get the arguments, and 0 after them.
-#[tactic(auto, unfolding(cj_draft::specs::Inlining::call_place))]
-pub(crate) fn call_place(
+/// The move to the callee's entry, which stands in the place of the call: the callee's registers, so many after the
+/// caller's, get the arguments, and 0 after them.
+pub(crate) fn entry_move(
+    alloc: Global,
     regs: u32,
     count: u32,
     to: Label,
     args: &[Operand],
-    place: &Place,
-) -> Result<Place, NoMemory>
+) -> Result<VInstr, NoMemory>
     requires { regs + count ≤ MAX_CODE_REGS }
-    ensures { IfOk result (λ made. made ≡ call_place regs count to args.now place.now) }
+    ensures { IfOk result (λ made. made ≡ Move (entry_pairs regs args.now count) to) }
 {
-    let pairs = entry_pairs(place.backs.allocator(), regs, args, count)?;
-    let point = place.point.copy()?;
-    let facts = place.facts.copy()?;
-    let backs = place.backs.copy()?;
-    Ok(Place {
-        instr: VInstr::Move { pairs, next: to },
-        point,
-        facts,
-        backs,
-    })
+    let pairs = entry_pairs(alloc, regs, args, count)?;
+    Ok(VInstr::Move { pairs, next: to })
 }
 
 /// The assignments to the callee's registers, from `first` on.

@@ -6,7 +6,7 @@ ghost use Rattle.cj_draft.specs.WellNamed.{WellNamed};
 ghost use Rattle.cj_inline.specs.Inlining.{inline_offence, inlined, inlined_or_left, IsAfter};
 ghost use Rattle.cj_draft.specs.declared.limits.TheConstants.{MAX_CODE_REGS};
 
-use crate::entries::call_place;
+use crate::entries::entry_move;
 use crate::offences::inline_offence;
 use crate::places::with_callee;
 use crate::seams::seam_at;
@@ -71,9 +71,15 @@ fn inlined(program: &Program, code: Code, call: Label, callee: &Code) -> Result<
     };
     let seam = seam_at(program, &code, place, dest, next)?;
     let entry = shifted_label(seam.labels, callee.entry);
-    let enter = call_place(code.regs, callee.regs, entry, args.items(), place)?;
+    let enter = entry_move(
+        args.allocator(),
+        code.regs,
+        callee.regs,
+        entry,
+        args.items(),
+    )?;
     let mut places = code.places;
-    places.set(index, enter);
+    places.item_mut(index).instr = enter;
     let places = with_callee(places, &seam, &callee.places)?;
     Ok(Code {
         function: code.function,

@@ -1,6 +1,6 @@
 //! Pairs of a label: whether one is there, and one more.
 
-ghost use Rattle.std.specs.Prelude.{◌≡◌, ◌↔◌, IfOk, IsTrue, Contains};
+ghost use Rattle.std.specs.Prelude.{◌≡◌, ◌↔◌, IfOk, OnOk, OnErr, IsTrue, Contains};
 ghost use Rattle.cj_draft.specs.Sound.{pair_of};
 ghost use Rattle.cj_rows.specs.Pairs.{AreWith};
 
@@ -72,15 +72,24 @@ pub fn has_pair(backs: &[Back], turns: u32, point: &Point) -> bool
     false
 }
 
-/// The pairs with that of a number and a point appended, where it is missing.
+/// Appends the pair of a number and a point, where it is missing. Where there is no memory the pairs stay.
+pub fn add_pair(backs: &mut Backs, turns: u32, point: &Point) -> Result<(), NoMemory>
+    ensures ok { OnOk result (AreWith backs.old (pair_of turns point.now) backs.new) }
+    ensures err { OnErr result (backs.new ≡ backs.old) }
+{
+    if has_pair(backs.items(), turns, point) {
+        return Ok(());
+    }
+    let point = point.copy()?;
+    backs.push(Back { turns, point })?;
+    Ok(())
+}
+
+/// A copy of the pairs, with that of a number and a point appended, where it is missing.
 pub fn with_pair(backs: &Backs, turns: u32, point: &Point) -> Result<Backs, NoMemory>
     ensures { IfOk result (AreWith backs.now (pair_of turns point.now)) }
 {
     let mut all = backs.copy()?;
-    if has_pair(backs.items(), turns, point) {
-        return Ok(all);
-    }
-    let point = point.copy()?;
-    all.push(Back { turns, point })?;
+    add_pair(&mut all, turns, point)?;
     Ok(all)
 }
