@@ -13,4 +13,5 @@ pub mod Meeting
 pub mod SearchSteps
 pub mod SearchEnds
 pub mod SearchCalls
+pub mod DeadSound
 pub mod BehindSound

@@ -1,10 +1,10 @@
 -- Guards that hold one after the other.
-use Rattle.std.proofs.Common.{◌≡◌, ◌≢◌, ℕ, suc, ◌+◌, ◌<◌, ◌≤◌, ◌==◌, Bool, true, false, List, [], ◌∷◌, ◌++◌, length, take, drop, get_or, Option, Some, None, refl, sym, ap, ap₂, ◌∙◌, subst, ⊎_elim, arith, add-one}
+use Rattle.std.proofs.Common.{◌≡◌, ℕ, ◌+◌, ◌<◌, ◌≤◌, ◌==◌, Bool, true, false, List, [], ◌∷◌, ◌++◌, length, take, drop, get_or, Option, Some, None, refl, sym, ap, ◌∙◌, ⊎_elim, add-one}
 use Rattle.std.specs.Prelude.{ℤ, if◌then◌else◌}
 use Rattle.std.specs.Option.{is_some}
 use Rattle.std.specs.Ordering.{int_eq}
 use Rattle.std.proofs.Math.Seq.{take-suc}
-use Rattle.std.proofs.lemmas.Option.{none-some, same_Some}
+use Rattle.std.proofs.lemmas.Option.{none-some}
 use Rattle.std.proofs.lemmas.Bool.{cases_eq, eq-eqb, ne_eqb, cond-true, cond-false}
 use Rattle.cj_ir.specs.declared.language.Reg.{Reg}
 use Rattle.cj_ir.specs.declared.language.Guard.{Guard}
@@ -13,7 +13,7 @@ use Rattle.cj_const.specs.Knowledge.{Knowledge, with_known}
 use Rattle.cj_const.specs.Flow.{with_value, with_guard, with_guards}
 use Rattle.cj_const.specs.Folding.{or_else}
 use Rattle.cj_const.proofs.FlowSteps.{guard-fails, guards-all}
-use Rattle.cj_const.proofs.Rows.{drop-at, drop-end}
+use Rattle.cj_const.proofs.Rows.{drop-at}
 use Rattle.cj_const.proofs.Monotone.{at-written, at-other}
 use Rattle.cj_sparse.specs.Holding.{asked_by, asked, fits, may_follow}
 

@@ -5,3 +5,4 @@ pub mod Passing
 pub mod SearchCalls
 pub mod SearchEnds
 pub mod Holding
+pub mod Behind

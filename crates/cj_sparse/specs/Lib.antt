@@ -1,3 +1,4 @@
 pub mod Reading
 pub mod Losses
 pub mod Holding
+pub mod Behind

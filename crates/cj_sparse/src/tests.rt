@@ -1,6 +1,9 @@
 //! Both searches for the strongest facts, over bodies by hand and over made ones.
 
 ghost use Rattle.std.specs.Prelude.{◌<◌};
+ghost use Rattle.cj_ir.specs.Values.{IsOperandWithin, IsExprWithin};
+
+mod behind;
 
 use super::{fold, strongest};
 use cj_draft::{Code, Draft, Fact, FactTable, Facts, VInstr};
@@ -34,26 +37,36 @@ impl Numbers {
         (self.last >> 33) % limit
     }
 
-    fn reg(&mut self) -> Reg {
+    fn reg(&mut self) -> Reg
+        ensures { result.0 < 4 }
+    {
         Reg(self.below(4) as u32)
     }
 
-    fn label(&mut self) -> Label {
+    fn label(&mut self) -> Label
+        ensures { result.0 < 16 }
+    {
         Label(self.below(LABELS) as u32)
     }
 
-    fn constant(&mut self) -> Operand {
+    fn constant(&mut self) -> Operand
+        ensures { IsOperandWithin 4 result }
+    {
         Operand::Const(self.below(3) as i64)
     }
 
-    fn operand(&mut self) -> Operand {
+    fn operand(&mut self) -> Operand
+        ensures { IsOperandWithin 4 result }
+    {
         if self.below(2) == 0 {
             return self.constant();
         }
         Operand::Reg(self.reg())
     }
 
-    fn expr(&mut self) -> Expr {
+    fn expr(&mut self) -> Expr
+        ensures { IsExprWithin 4 result }
+    {
         match self.below(6) {
             0 => Expr::Add(self.operand(), self.operand()),
             1 => Expr::Div(self.operand(), self.operand()),
