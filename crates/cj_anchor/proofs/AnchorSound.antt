@@ -1,5 +1,6 @@
 -- A fresh Anchor before a label keeps that a code is sound.
-use Rattle.std.proofs.Common.{◌≡◌, ◌≢◌, ℕ, ◌+◌, ◌<◌, ◌≤◌, ◌⊎◌, List, [], ◌∷◌, ◌++◌, length, map, Option, Some, None, refl, sym, ap, ◌∙◌, subst, inl, inr, ⊎_elim, arith, length-append}
+use Rattle.std.proofs.Common.{◌≡◌, ◌≢◌, ℕ, ◌+◌, ◌<◌, ◌≤◌, ◌⊎◌, List, [], ◌∷◌, ◌++◌, length, map, Option, Some, None, refl, sym, ap, ◌∙◌, subst, inl, inr}
+use Rattle.std.proofs.Common.{⊎_elim, arith, length-append}
 use Rattle.std.specs.Prelude.{ℤ, slice_get, slice_set}
 use Rattle.std.specs.Option.{option_map}
 use Rattle.std.proofs.lemmas.Option.{same_Some, none-some, slice_get-map, slice_get_within, slice_get_past}
@@ -39,7 +40,8 @@ use Rattle.cj_rows.proofs.WithPairs.{with_old, with_new, with_only}
 
 -- ---- the conditions that no offence leaves
 
-pub has_room : (code : Code) (l : Label) (p : Place) → place_at code l ≡ Some p → anchor_offence code l ≡ None → (fresh_row code l ≤ 8) × (length code.places + 1 ≤ 512)
+pub has_room : (code : Code) (l : Label) (p : Place) → place_at code l ≡ Some p → anchor_offence code l ≡ None →
+    (fresh_row code l ≤ 8) × (length code.places + 1 ≤ 512)
 unfolding anchor_offence offence_at
 has_room code l p at none = room.has_room (fresh_row code l) (length code.places + 1) (sym (ap (offence_at code l) at) ∙ none)
 
@@ -82,15 +84,18 @@ module _ (P : Program) (context : List Fact) (f : FunId) (code : Code) (l : Labe
 
   old_at : (x : Label) (p : Place) → place_at code x ≡ Some p → place_at code' x ≡ Some (led_place r p)
   unfolding code' anchored r anchor_place fresh
-  old_at x p at = get-append_left (map (led_place r) code.places) (fresh ∷ []) x.0 (led_place r p) (slice_get-map (led_place r) code.places x.0 ∙ ap (option_map (led_place r)) at)
+  old_at x p at = get-append_left (map (led_place r) code.places) (fresh ∷ []) x.0 (led_place r p) (slice_get-map (led_place r) code.places x.0
+      ∙ ap (option_map (led_place r)) at)
 
   fresh_at : place_at code' a ≡ Some fresh
   unfolding code' anchored r a fresh_label fresh
-  fresh_at = subst (λ k. slice_get (map (led_place r) code.places ++ fresh ∷ []) k ≡ Some fresh) (length-map code.places (led_place r)) (get-append_end (map (led_place r) code.places) fresh)
+  fresh_at = subst (λ k. slice_get (map (led_place r) code.places ++ fresh ∷ []) k ≡ Some fresh) (length-map code.places (led_place r))
+      (get-append_end (map (led_place r) code.places) fresh)
 
   length-new : length code'.places ≡ length code.places + 1
   unfolding code' anchored
-  length-new = length-append (map (led_place (led_to l (fresh_label code))) code.places) (anchor_place l place backs ∷ []) ∙ ap (λ k. k + 1) (length-map code.places (led_place (led_to l (fresh_label code))))
+  length-new = length-append (map (led_place (led_to l (fresh_label code))) code.places) (anchor_place l place backs ∷ [])
+      ∙ ap (λ k. k + 1) (length-map code.places (led_place (led_to l (fresh_label code))))
 
   as_kept : (x : Label) (p : Place) → IsKept r (New x) p (led_place r p)
   unfolding led_place
@@ -155,7 +160,8 @@ module _ (P : Program) (context : List Fact) (f : FunId) (code : Code) (l : Labe
   led_fine x p at =
       let fine = fine_of P code sound.named x p at in
       record {
-        instr = relabel_fine P code.regs (length code.places) r (length code'.places) p.instr (λ y c. led_within y (next_within code x p y closed at c)) fine.instr;
+        instr = relabel_fine P code.regs (length code.places) r (length code'.places) p.instr (λ y c. led_within y (next_within code x p y closed at c))
+            fine.instr;
         point = fine.point;
         facts = fine.facts;
         backs = fine.backs;

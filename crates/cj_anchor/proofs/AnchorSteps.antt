@@ -24,20 +24,26 @@ no_offence_within code l none = by_place (place_at code l) refl none
     by_place None at e = absurd (none-some (NoPlace l) (sym e))
     by_place (Some p) at e = slice_get_within code.places l.0 p at
 
-pub step_sound : (P : Program) (context : List Fact) (f : FunId) (code : Code) (index : ℕ) (l : Label) (made : Code) (skips more : List (ℕ × Skipped)) → Sound P context f code → IsAnchorStep code index l made skips more → Sound P context f made
+pub step_sound : (P : Program) (context : List Fact) (f : FunId) (code : Code) (index : ℕ) (l : Label) (made : Code) (skips more : List (ℕ × Skipped)) →
+    Sound P context f code → IsAnchorStep code index l made skips more → Sound P context f made
 step_sound P context f code index l made skips more sound step = ⊎_elim
     (λ s. subst (Sound P context f) (sym s.1.same) (anchored_sound P context f code l s.1.place s.1.backs s.1.at s.1.with_own sound s.0))
     (λ s. subst (Sound P context f) (sym s.2) sound) step
 
-pub step_function : (code : Code) (index : ℕ) (l : Label) (made : Code) (skips more : List (ℕ × Skipped)) → IsAnchorStep code index l made skips more → made.function ≡ code.function
+pub step_function : (code : Code) (index : ℕ) (l : Label) (made : Code) (skips more : List (ℕ × Skipped)) → IsAnchorStep code index l made skips more →
+    made.function ≡ code.function
 unfolding anchored
 step_function code index l made skips more step = ⊎_elim
     (λ s. ap (λ (k : Code). k.function) s.1.same)
     (λ s. ap (λ (k : Code). k.function) s.2) step
 
-pub step_rest : (first : Code) (all : List Label) (code : Code) (index : ℕ) (l : Label) (labels : List Label) (made : Code) (skips more : List (ℕ × Skipped)) → IsAnchorStep code index l made skips more → ((end : Code) (later : List (ℕ × Skipped)) → AreAnchored index code (l ∷ labels) end later → AreAnchored 0 first all end (skips ++ later)) → (end : Code) (later : List (ℕ × Skipped)) → AreAnchored (index + 1) made labels end later → AreAnchored 0 first all end (more ++ later)
+pub step_rest : (first : Code) (all : List Label) (code : Code) (index : ℕ) (l : Label) (labels : List Label) (made : Code) (skips more : List (ℕ × Skipped)) →
+    IsAnchorStep code index l made skips more →
+    ((end : Code) (later : List (ℕ × Skipped)) → AreAnchored index code (l ∷ labels) end later → AreAnchored 0 first all end (skips ++ later)) →
+    (end : Code) (later : List (ℕ × Skipped)) → AreAnchored (index + 1) made labels end later → AreAnchored 0 first all end (more ++ later)
 step_rest first all code index l labels made skips more step rest end later are = ⊎_elim
-    (λ s. subst (λ (ss : List (ℕ × Skipped)). AreAnchored 0 first all end (ss ++ later)) (sym s.2) (rest end later (Placed index code made end l labels later s.0 s.1 are)))
+    (λ s. subst (λ (ss : List (ℕ × Skipped)). AreAnchored 0 first all end (ss ++ later)) (sym s.2)
+    (rest end later (Placed index code made end l labels later s.0 s.1 are)))
     (λ s.
     let entry : List (ℕ × Skipped) = (told index, s.0) ∷ [] in
     let now = subst (λ (k : Code). AreAnchored (index + 1) k labels end later) s.2 are in

@@ -22,7 +22,8 @@ anchored_unique code label one other a b =
 abbrev Alike : Code → Code → List (ℕ × Skipped) → List (ℕ × Skipped) → Type 0
 Alike one other skips skips' = (one ≡ other) × (skips ≡ skips')
 
-pub anchors_unique : (index : ℕ) (code : Code) (labels : List Label) (one other : Code) (skips skips' : List (ℕ × Skipped)) → AreAnchored index code labels one skips → AreAnchored index code labels other skips' → Alike one other skips skips'
+pub anchors_unique : (index : ℕ) (code : Code) (labels : List Label) (one other : Code) (skips skips' : List (ℕ × Skipped)) →
+    AreAnchored index code labels one skips → AreAnchored index code labels other skips' → Alike one other skips skips'
 anchors_unique index code labels one other skips skips' (Finished i k) (Finished i' k') = (refl, refl)
 anchors_unique index code labels one other skips skips' (Placed i k next made l ls ss none a rest) (Placed i' k' next' made' l' ls' ss' none' a' rest') =
     anchors_unique (i + 1) next ls made made' ss ss' rest (subst (λ (c : Code). AreAnchored (i + 1) c ls made' ss') (anchored_unique k l next' next a' a) rest')

@@ -46,7 +46,8 @@ module _ (code code' : Code) (a s next : Label) (g : HasGuardsAfter code code' a
       by_guard (Some y) e = absurd (row_ends code x y e row)
   row_apart (suc n) x ne never row = by_guard (λ y d w r. row_apart n y d w r) (guard_at code x) refl
     where
-      by_guard : ((y : Label) → y ≢ s → ((k : ℕ) → Leads code a k y → ⊥) → RowWithin code n y → RowWithin code' n y) → (o : Option Label) → guard_at code x ≡ o → RowWithin code' (suc n) x
+      by_guard : ((y : Label) → y ≢ s → ((k : ℕ) → Leads code a k y → ⊥) → RowWithin code n y → RowWithin code' n y) → (o : Option Label) →
+          guard_at code x ≡ o → RowWithin code' (suc n) x
       by_guard ih None e = no_row code' (suc n) x (g.old x (never 0) ne ∙ e)
       by_guard ih (Some y) e =
           one_row code' n x y (g.old x (never 0) ne ∙ e)
@@ -90,7 +91,8 @@ module _ (code code' : Code) (a s next : Label) (g : HasGuardsAfter code code' a
       by_guard ne (Some y) e = absurd (row_ends code x y e row)
   leads_or (suc n) x row = ⊎_elim (λ e. inl (0, e)) (λ ne. by_guard (λ y r. leads_or n y r) ne (guard_at code x) refl) (label_cases x a)
     where
-      by_guard : ((y : Label) → RowWithin code n y → ((k : ℕ) × Leads code a k y) ⊎ ((k : ℕ) → Leads code a k y → ⊥)) → x ≢ a → (o : Option Label) → guard_at code x ≡ o → ((k : ℕ) × Leads code a k x) ⊎ ((k : ℕ) → Leads code a k x → ⊥)
+      by_guard : ((y : Label) → RowWithin code n y → ((k : ℕ) × Leads code a k y) ⊎ ((k : ℕ) → Leads code a k y → ⊥)) → x ≢ a → (o : Option Label) →
+          guard_at code x ≡ o → ((k : ℕ) × Leads code a k x) ⊎ ((k : ℕ) → Leads code a k x → ⊥)
       by_guard ih ne None e = inr (leads_not x ne e)
       by_guard ih ne (Some y) e = ⊎_elim
           (λ h. inl (suc h.0, (y, e, h.1)))

@@ -1,5 +1,6 @@
 -- Guards that are assumed directly after an Anchor keep that a code is sound.
-use Rattle.std.proofs.Common.{◌≡◌, ◌≢◌, ℕ, ◌+◌, ◌<◌, ◌≤◌, ◌⊎◌, List, [], ◌∷◌, ◌++◌, length, Option, Some, None, refl, sym, ap, ◌∙◌, subst, inl, inr, ⊎_elim, arith, length-append}
+use Rattle.std.proofs.Common.{◌≡◌, ◌≢◌, ℕ, ◌+◌, ◌<◌, ◌≤◌, ◌⊎◌, List, [], ◌∷◌, ◌++◌, length, Option, Some, None, refl, sym, ap, ◌∙◌, subst, inl, inr, ⊎_elim}
+use Rattle.std.proofs.Common.{arith, length-append}
 use Rattle.std.specs.Prelude.{slice_get, slice_set, All}
 use Rattle.std.proofs.lemmas.Option.{same_Some, none-some, slice_get_within}
 use Rattle.std.proofs.lemmas.List.{length-set}
@@ -30,7 +31,8 @@ use Rattle.cj_draft.specs.Skips.{unless}
 use Rattle.cj_rows.specs.Rows.{guard_in, guard_at, anchor_at, anchor_in, anchor_next}
 use Rattle.cj_rows.proofs.ListReads.{get-set_same, get-set_other, get-append_left, get-append_end}
 use Rattle.cj_rows.proofs.RowLemmas.{guard_place, has_guard}
-use Rattle.cj_assume.specs.ImmediateAssume.{guards_at, full_offence, assume_offence, with_more, appended_in, appended, anchor_to, assume_of, inserted_in, inserted, assumed_by, assumed_after, assumed, assumed_or_left}
+use Rattle.cj_assume.specs.ImmediateAssume.{guards_at, full_offence, assume_offence, with_more, appended_in, appended, anchor_to, assume_of, inserted_in}
+use Rattle.cj_assume.specs.ImmediateAssume.{inserted, assumed_by, assumed_after, assumed, assumed_or_left}
 use Rattle.cj_rows.specs.Places.{with_instr, with_places}
 use Rattle.cj_assume.proofs.Conditions.{CanAssume, can_assume, HasAssume, has_assume, room_for_more, HasRoom, room_for_fresh}
 use Rattle.cj_rows.proofs.GuardConditions.{guards_within}
@@ -113,7 +115,8 @@ module _ (P : Program) (context : List Fact) (f : FunId) (code : Code) (l : Labe
     entry = omega (arith, same_length, sound.named.entry);
     places = all_from (IsPlaceFine P code.regs (length code1.places)) code1.places (λ i p' at.
         ⊎_elim
-        (λ old. place_wider P code.regs code.regs (length code.places) (length code1.places) (omega arith) (omega (arith, same_length)) p' (fine_of P code sound.named (label i) p' old))
+        (λ old. place_wider P code.regs code.regs (length code.places) (length code1.places) (omega arith) (omega (arith, same_length)) p'
+        (fine_of P code sound.named (label i) p' old))
         (λ new. subst (IsPlaceFine P code.regs (length code1.places)) new grown_fine)
         (was1 (label i) p' at));
   }
@@ -124,7 +127,8 @@ module _ (P : Program) (context : List Fact) (f : FunId) (code : Code) (l : Labe
   guards1 : (x : Label) → guard_at code1 x ≡ guard_at code x
   unfolding guard_at guard_in guard_next grown more.with_guards
   guards1 x = ⊎_elim
-      (λ e. ap (guard_at code1) e ∙ guard_place code1 l grown here1 ∙ sym (ap (guard_at code) e ∙ guard_place code l has.place has.at ∙ ap guard_next has.instr))
+      (λ e. ap (guard_at code1) e ∙ guard_place code1 l grown here1
+      ∙ sym (ap (guard_at code) e ∙ guard_place code l has.place has.at ∙ ap guard_next has.instr))
       (λ ne. ap guard_in (else1 x ne))
       (label_cases x l)
 
@@ -176,7 +180,8 @@ module _ (P : Program) (context : List Fact) (f : FunId) (code : Code) (a : Labe
 
   at_s : place_at code2 s ≡ Some fresh
   unfolding code2 with_places s fresh_label
-  at_s = subst (λ k. slice_get (slice_set code.places a.0 led ++ fresh ∷ []) k ≡ Some fresh) (length-set code.places a.0 led) (get-append_end (slice_set code.places a.0 led) fresh)
+  at_s = subst (λ k. slice_get (slice_set code.places a.0 led ++ fresh ∷ []) k ≡ Some fresh) (length-set code.places a.0 led)
+      (get-append_end (slice_set code.places a.0 led) fresh)
 
   else2 : (x : Label) (p : Place) → x ≢ a → place_at code x ≡ Some p → place_at code2 x ≡ Some p
   unfolding code2 with_places
@@ -254,7 +259,8 @@ module _ (P : Program) (context : List Fact) (f : FunId) (code : Code) (a : Labe
     entry = omega (arith, longer, sound.named.entry);
     places = all_from (IsPlaceFine P code.regs (length code2.places)) code2.places (λ i p' at.
         ⊎_elim
-        (λ old. place_wider P code.regs code.regs (length code.places) (length code2.places) (omega arith) (omega (arith, longer)) p' (fine_of P code sound.named (label i) p' old))
+        (λ old. place_wider P code.regs code.regs (length code.places) (length code2.places) (omega arith) (omega (arith, longer)) p'
+        (fine_of P code sound.named (label i) p' old))
         (λ new. ⊎_elim
         (λ e. subst (IsPlaceFine P code.regs (length code2.places)) e led_fine)
         (λ e. subst (IsPlaceFine P code.regs (length code2.places)) e fresh_fine) new)
@@ -319,7 +325,8 @@ module _ (P : Program) (context : List Fact) (f : FunId) (code : Code) (a : Labe
   is_inserted : inserted code a gs ≡ code2
   unfolding inserted inserted_in code2 with_places with_instr anchor_to assume_of led fresh direct.anchor_to direct.assume_after
   is_inserted = ap (inserted_in code a gs) can.at
-      ∙ ap (λ (i : VInstr). with_places code (slice_set code.places a.0 (with_instr (anchor_to (fresh_label code) i) can.place) ++ with_instr (assume_of gs i) can.place ∷ [])) can.instr
+      ∙ ap (λ (i : VInstr). with_places code (slice_set code.places a.0 (with_instr (anchor_to (fresh_label code) i) can.place)
+      ++ with_instr (assume_of gs i) can.place ∷ [])) can.instr
 
   pub inserted_sound : Sound P context f (inserted code a gs)
   inserted_sound = subst (Sound P context f) (sym is_inserted)
@@ -331,7 +338,8 @@ pub anchor_is : (code : Code) (a : Label) (gs : List Guard) (can : CanAssume cod
 unfolding anchor_at anchor_in anchor_next
 anchor_is code a gs can = ap anchor_in can.at ∙ ap anchor_next can.instr
 
-pub assumed_sound : (P : Program) (context : List Fact) (f : FunId) (code : Code) (a : Label) (gs : List Guard) → assume_offence code a gs ≡ None → Sound P context f code → Sound P context f (assumed code a gs)
+pub assumed_sound : (P : Program) (context : List Fact) (f : FunId) (code : Code) (a : Label) (gs : List Guard) → assume_offence code a gs ≡ None →
+    Sound P context f code → Sound P context f (assumed code a gs)
 unfolding assumed assumed_after assumed_by
 assumed_sound P context f code a gs none sound = by_count (guards_at code can.next) refl
   where
@@ -342,7 +350,8 @@ assumed_sound P context f code a gs none sound = by_count (guards_at code can.ne
     by_count (Some own) e =
         let full = sym (ap (full_offence code a (length gs)) e) ∙ can.full in
         subst (Sound P context f) (sym (ap (assumed_after code a gs) (anchor_is code a gs can) ∙ ap (assumed_by code a gs can.next) e))
-        (appended_sound P context f code can.next own gs (has_assume code can.next own e) (guards_within code.regs gs can.registers) (room_for_more code a (length gs) own full) sound)
+        (appended_sound P context f code can.next own gs (has_assume code can.next own e) (guards_within code.regs gs can.registers)
+        (room_for_more code a (length gs) own full) sound)
     by_count None e =
         let full = sym (ap (full_offence code a (length gs)) e) ∙ can.full in
         subst (Sound P context f) (sym (ap (assumed_after code a gs) (anchor_is code a gs can) ∙ ap (assumed_by code a gs can.next) e))

@@ -30,7 +30,8 @@ use Rattle.cj_const.specs.Behind.{reg, label, failing, six, swap, guards, place,
 regs-differ : reg 0 ≡ reg 1 → ⊥
 regs-differ e = let h : 1 ≤ 0 = subst (λ (r : Reg). r.0 ≤ 0) e (le_refl 0) in absurd (omega arith)
 
-module _ (P : Program) (f : FunId) (context : List Fact) (first : Place) (sound : Sound P context f (base_code P f)) (at : place_at (base_code P f) (label 0) ≡ Some first) (two : reg_count P f ≡ 2)
+module _ (P : Program) (f : FunId) (context : List Fact) (first : Place) (sound : Sound P context f (base_code P f)) (at : place_at (base_code P f) (label 0)
+    ≡ Some first) (two : reg_count P f ≡ 2)
     (fails : (regs m : List ℤ) → version_effect first.instr regs m ≡ Plain (Faults (BadAddress (negsuc 0)))) where
   same_regs : (base_code P f).regs ≡ 2
   same_regs = sym (regs_of_base P f) ∙ two
@@ -62,7 +63,8 @@ module _ (P : Program) (f : FunId) (context : List Fact) (first : Place) (sound 
         lit< tt,
       )
     where
-      differ : (i j : ℕ) (d : Pair) → i < j → j < 2 → (slice_index_or (to-first ∷ to-other ∷ []) i d).dest ≢ (slice_index_or (to-first ∷ to-other ∷ []) j d).dest
+      differ : (i j : ℕ) (d : Pair) → i < j → j < 2 →
+          (slice_index_or (to-first ∷ to-other ∷ []) i d).dest ≢ (slice_index_or (to-first ∷ to-other ∷ []) j d).dest
       differ zero zero d lt below = absurd (omega arith)
       differ zero (suc zero) d lt below = λ e. regs-differ e
       differ zero (suc (suc j)) d lt below = absurd (omega arith)
@@ -113,14 +115,19 @@ module _ (P : Program) (f : FunId) (context : List Fact) (first : Place) (sound 
   guard-to zero p next e g = absurd (none-some next (ap (λ (q : Place). guard_next q.instr) (same_Some (place first.point (Known []) failing) p e) ∙ g))
   guard-to (suc zero) p next e g = absurd (none-some next (ap (λ (q : Place). guard_next q.instr) (same_Some (place first.point Unreached six) p e) ∙ g))
   guard-to (suc (suc zero)) p next e g = absurd (none-some next (ap (λ (q : Place). guard_next q.instr) (same_Some (place first.point Unreached swap) p e) ∙ g))
-  guard-to (suc (suc (suc zero))) p next e g = sym (ap (λ (l : Label). l.0) (same_Some (label 4) next (ap (λ (q : Place). guard_next q.instr) (same_Some (place first.point Unreached (Assume guards 0 first.point (label 4))) p e) ∙ g)))
-  guard-to (suc (suc (suc (suc zero)))) p next e g = absurd (none-some next (ap (λ (q : Place). guard_next q.instr) (same_Some (place first.point Unreached (Return (operand.Reg (reg 1)))) p e) ∙ g))
+  guard-to (suc (suc (suc zero))) p next e g = sym
+      (ap (λ (l : Label). l.0)
+      (same_Some (label 4) next (ap (λ (q : Place). guard_next q.instr) (same_Some (place first.point Unreached (Assume guards 0 first.point (label 4))) p e)
+      ∙ g)))
+  guard-to (suc (suc (suc (suc zero)))) p next e g = absurd
+      (none-some next (ap (λ (q : Place). guard_next q.instr) (same_Some (place first.point Unreached (Return (operand.Reg (reg 1)))) p e) ∙ g))
   guard-to (suc (suc (suc (suc (suc k))))) p next e g = absurd (none-some p e)
 
   last-free : (k : ℕ) (p : Place) → k ≡ 4 → slice_get (behind first.point) k ≡ Some p → guard_next p.instr ≡ None
   unfolding guard_next
   last-free k p at4 e =
-      sym (ap (λ (q : Place). guard_next q.instr) (same_Some (place first.point Unreached (Return (operand.Reg (reg 1)))) p (subst (λ n. slice_get (behind first.point) n ≡ Some p) at4 e)))
+      sym (ap (λ (q : Place). guard_next q.instr)
+      (same_Some (place first.point Unreached (Return (operand.Reg (reg 1)))) p (subst (λ n. slice_get (behind first.point) n ≡ Some p) at4 e)))
 
   rows : (x : Label) → RowWithin (behind_code f first.point) 8 x
   rows x = λ p next e g q further e' g'.

@@ -36,7 +36,8 @@ unfolding known_value
 known-agrees k regs agrees (operand.Reg r) v e = agrees r.0 v e
 known-agrees k regs agrees (operand.Const c) v e = same_Some c v e
 
-constant-effect : (regs : List ℤ) (o : Operand) (known : Option ℤ) → ((v : ℤ) → known ≡ Some v → operand_value regs o ≡ v) → operand_value regs (constant_or o known) ≡ operand_value regs o
+constant-effect : (regs : List ℤ) (o : Operand) (known : Option ℤ) → ((v : ℤ) → known ≡ Some v → operand_value regs o ≡ v) →
+    operand_value regs (constant_or o known) ≡ operand_value regs o
 unfolding constant_or
 constant-effect regs o None h = refl
 constant-effect regs o (Some v) h = sym (h v refl)
@@ -45,7 +46,8 @@ pub operand-effect : (k : Knowledge) (regs : List ℤ) → Agrees k regs → (o 
 unfolding folded_operand
 operand-effect k regs agrees o = constant-effect regs o (known_value k o) (known-agrees k regs agrees o)
 
-args-effect : (k : Knowledge) (regs : List ℤ) → Agrees k regs → (args : List Operand) → map (operand_value regs) (map (folded_operand k) args) ≡ map (operand_value regs) args
+args-effect : (k : Knowledge) (regs : List ℤ) → Agrees k regs → (args : List Operand) → map (operand_value regs) (map (folded_operand k) args)
+    ≡ map (operand_value regs) args
 args-effect k regs agrees [] = refl
 args-effect k regs agrees (a ∷ args) = ap₂ (λ (v : ℤ) (vs : List ℤ). v ∷ vs) (operand-effect k regs agrees a) (args-effect k regs agrees args)
 
@@ -62,7 +64,8 @@ constant-value regs (operand.Const c) e = refl
 one-value : (regs : List ℤ) (o : Operand) → is_constant o && true ≡ true → operand_value [] o ≡ operand_value regs o
 one-value regs o e = constant-value regs o (and_parts (is_constant o) true e).0
 
-two-value : (regs : List ℤ) (f : ℤ → ℤ → Option ℤ) (a b : Operand) → is_constant a && (is_constant b && true) ≡ true → f (operand_value [] a) (operand_value [] b) ≡ f (operand_value regs a) (operand_value regs b)
+two-value : (regs : List ℤ) (f : ℤ → ℤ → Option ℤ) (a b : Operand) → is_constant a && (is_constant b && true) ≡ true →
+    f (operand_value [] a) (operand_value [] b) ≡ f (operand_value regs a) (operand_value regs b)
 two-value regs f a b e =
     let h = and_parts (is_constant a) (is_constant b && true) e in
     ap₂ f (constant-value regs a h.0) (one-value regs b h.1)
@@ -94,7 +97,8 @@ outcome-is (Some v) = refl
 pub evaluated-is : (regs : List ℤ) (e : Expr) → IsOutcome (expr_value regs e) (evaluated e)
 unfolding evaluated
 evaluated-is regs e = ⊎_elim
-    (λ yes_. subst (IsOutcome (expr_value regs e)) (sym (cond-true (are_constants e) (outcome_of (expr_value [] e)) Unknown yes_)) (subst (λ o. IsOutcome o (outcome_of (expr_value [] e))) (constants-value regs e yes_) (outcome-is (expr_value [] e))))
+    (λ yes_. subst (IsOutcome (expr_value regs e)) (sym (cond-true (are_constants e) (outcome_of (expr_value [] e)) Unknown yes_))
+    (subst (λ o. IsOutcome o (outcome_of (expr_value [] e))) (constants-value regs e yes_) (outcome-is (expr_value [] e))))
     (λ no_. subst (IsOutcome (expr_value regs e)) (sym (cond-false (are_constants e) (outcome_of (expr_value [] e)) Unknown no_)) tt)
     (cases_Bool (are_constants e))
 
@@ -111,14 +115,16 @@ expr-effect k regs agrees e =
 
 -- ---- moves, conds and guards
 
-moved-effect : (k : Knowledge) (regs : List ℤ) → Agrees k regs → (pairs : List Pair) (now : List ℤ) → moved regs (map (folded_pair k) pairs) now ≡ moved regs pairs now
+moved-effect : (k : Knowledge) (regs : List ℤ) → Agrees k regs → (pairs : List Pair) (now : List ℤ) →
+    moved regs (map (folded_pair k) pairs) now ≡ moved regs pairs now
 unfolding moved folded_pair
 moved-effect k regs agrees [] now = refl
 moved-effect k regs agrees (pair ∷ pairs) now =
     ap (λ v. moved regs (map (folded_pair k) pairs) (slice_set now pair.dest.0 v)) (operand-effect k regs agrees pair.value)
     ∙ moved-effect k regs agrees pairs (slice_set now pair.dest.0 (operand_value regs pair.value))
 
-cond-effect : (regs m : List ℤ) (test : Operand) (known : Option ℤ) (a b : Label) → ((v : ℤ) → known ≡ Some v → operand_value regs test ≡ v) → version_effect (folded_cond test known a b) regs m ≡ version_effect (Cond test a b) regs m
+cond-effect : (regs m : List ℤ) (test : Operand) (known : Option ℤ) (a b : Label) → ((v : ℤ) → known ≡ Some v → operand_value regs test ≡ v) →
+    version_effect (folded_cond test known a b) regs m ≡ version_effect (Cond test a b) regs m
 unfolding version_effect folded_cond
 cond-effect regs m test None a b h = refl
 cond-effect regs m test (Some v) a b h = ap (λ w. Plain (On (branch w a b) regs m [])) (sym (h v refl))
@@ -151,7 +157,8 @@ unfolding is_false is_open guard_holds
 known-holds k regs agrees Never e open_ = absurd (cc)
 known-holds k regs agrees (Is reg value) e open_ = closed-holds value (register regs reg.0) (k reg.0) (agrees reg.0) e open_
 
-open-effect : (k : Knowledge) (regs : List ℤ) → Agrees k regs → (guards : List Guard) → list_any (is_false k) guards ≡ false → guards_hold regs (filter (is_open k) guards) ≡ guards_hold regs guards
+open-effect : (k : Knowledge) (regs : List ℤ) → Agrees k regs → (guards : List Guard) → list_any (is_false k) guards ≡ false →
+    guards_hold regs (filter (is_open k) guards) ≡ guards_hold regs guards
 unfolding guards_hold
 open-effect k regs agrees [] e = refl
 open-effect k regs agrees (g ∷ guards) e =
@@ -160,19 +167,23 @@ open-effect k regs agrees (g ∷ guards) e =
     let kept = filter (is_open k) guards in
     ⊎_elim
     (λ yes_. ap (guards_hold regs) (cond-true (is_open k g) (g ∷ kept) kept yes_) ∙ ap (λ b. guard_holds regs g && b) rest)
-    (λ no_. ap (guards_hold regs) (cond-false (is_open k g) (g ∷ kept) kept no_) ∙ rest ∙ sym (ap (λ b. b && guards_hold regs guards) (known-holds k regs agrees g h.0 no_)))
+    (λ no_. ap (guards_hold regs) (cond-false (is_open k g) (g ∷ kept) kept no_) ∙ rest
+    ∙ sym (ap (λ b. b && guards_hold regs guards) (known-holds k regs agrees g h.0 no_)))
     (cases_Bool (is_open k g))
 
 guards-effect : (k : Knowledge) (regs : List ℤ) → Agrees k regs → (guards : List Guard) → guards_hold regs (folded_guards k guards) ≡ guards_hold regs guards
 unfolding folded_guards guards_hold guard_holds
 guards-effect k regs agrees guards = ⊎_elim
-    (λ yes_. ap (guards_hold regs) (cond-true (list_any (is_false k) guards) (Never ∷ []) (filter (is_open k) guards) yes_) ∙ sym (any-false k regs agrees guards yes_))
-    (λ no_. ap (guards_hold regs) (cond-false (list_any (is_false k) guards) (Never ∷ []) (filter (is_open k) guards) no_) ∙ open-effect k regs agrees guards no_)
+    (λ yes_. ap (guards_hold regs) (cond-true (list_any (is_false k) guards) (Never ∷ []) (filter (is_open k) guards) yes_)
+    ∙ sym (any-false k regs agrees guards yes_))
+    (λ no_. ap (guards_hold regs) (cond-false (list_any (is_false k) guards) (Never ∷ []) (filter (is_open k) guards) no_)
+    ∙ open-effect k regs agrees guards no_)
     (cases_Bool (list_any (is_false k) guards))
 
 -- ---- instructions
 
-pub instr-effect : (k : Knowledge) (regs m : List ℤ) → Agrees k regs → (instr : VInstr) → version_effect (folded_instr k instr) regs m ≡ version_effect instr regs m
+pub instr-effect : (k : Knowledge) (regs m : List ℤ) → Agrees k regs → (instr : VInstr) →
+    version_effect (folded_instr k instr) regs m ≡ version_effect instr regs m
 unfolding version_effect folded_instr op_effect
 instr-effect k regs m agrees (Nop next) = refl
 instr-effect k regs m agrees (Op dest e next) =

@@ -100,10 +100,12 @@ by-next (Known facts) instr = instr-next (told_by facts) instr
 among-allows : (context : List Fact) (facts : Facts) (regs : List ℤ) → AreAmong context facts → Satisfies context regs → Allows facts regs
 among-allows context Unreached regs among satisfied = absurd among
 among-allows context (Known facts) regs among satisfied =
-    All-weaker (Contains context) (λ (x : Fact). register regs x.reg.0 ≡ x.value) (λ x c. All-contains (λ (y : Fact). register regs y.reg.0 ≡ y.value) context x satisfied c) facts among
+    All-weaker (Contains context) (λ (x : Fact). register regs x.reg.0 ≡ x.value)
+    (λ x c. All-contains (λ (y : Fact). register regs y.reg.0 ≡ y.value) context x satisfied c) facts among
 
 -- facts of the arguments are facts of the registers with which a function is entered
-satisfied-entry : (context : List Fact) (n count : ℕ) (args : List ℤ) → AreFactsFine count context → length args ≡ count → Satisfies context args → Satisfies context (entry_regs n args)
+satisfied-entry : (context : List Fact) (n count : ℕ) (args : List ℤ) → AreFactsFine count context → length args ≡ count → Satisfies context args →
+    Satisfies context (entry_regs n args)
 unfolding entry_regs
 satisfied-entry context n count args fine e satisfied = λ k d lt.
     let low = fine.registers k d lt in
@@ -138,7 +140,8 @@ pub folded_function : (code : Code) (table : List Facts) → (folded code table)
 unfolding folded
 folded_function code table = refl
 
-module _ (P : Program) (context : List Fact) (f : FunId) (code : Code) (table : List Facts) (sound : Sound P context f code) (fits : IsContextOf P f context) (consistent : IsConsistent context code table) where
+module _ (P : Program) (context : List Fact) (f : FunId) (code : Code) (table : List Facts) (sound : Sound P context f code) (fits : IsContextOf P f context)
+    (consistent : IsConsistent context code table) where
   abbrev n : ℕ
   n = code.regs
 
@@ -151,7 +154,8 @@ module _ (P : Program) (context : List Fact) (f : FunId) (code : Code) (table : 
   place-fine : (x : Label) (p : Place) → place_at code x ≡ Some p → IsPlaceFine P n (length code.places) p
   place-fine x p at = all_at (IsPlaceFine P n (length code.places)) code.places x.0 p sound.named.places at
 
-  by-flows : (x : Label) (p : Place) (at : place_at code x ≡ Some p) (facts : Facts) → facts_at table x ≡ facts → (regs m : List ℤ) → length regs ≡ n → Allows facts regs → Flows (Tells n table) regs (version_effect p.instr regs m)
+  by-flows : (x : Label) (p : Place) (at : place_at code x ≡ Some p) (facts : Facts) → facts_at table x ≡ facts → (regs m : List ℤ) → length regs ≡ n →
+      Allows facts regs → Flows (Tells n table) regs (version_effect p.instr regs m)
   by-flows x p at Unreached e regs m count allows = absurd allows
   by-flows x p at (Known facts) e regs m count allows =
       flows n table (told_by facts) regs count (satisfies-agrees facts regs allows) p.instr m
@@ -221,7 +225,8 @@ module _ (P : Program) (context : List Fact) (f : FunId) (code : Code) (table : 
       rows m next (row g.0 next g.1 (sym (by-next (facts_at table x) g.0.instr) ∙ ap (λ (p : Place). guard_next p.instr) g.2 ∙ e))
 
   context-fine : AreFactsFine n context
-  context-fine = context-wider (slice_get P.functions f.0) n context (subst (λ (g : FunId). ParamsWithin (slice_get P.functions g.0) n) sound.function sound.named.params) fits
+  context-fine = context-wider (slice_get P.functions f.0) n context
+      (subst (λ (g : FunId). ParamsWithin (slice_get P.functions g.0) n) sound.function sound.named.params) fits
 
   entry-among : (p' : Place) → place_at code' code.entry ≡ Some p' → AreAmong context p'.facts
   unfolding folded folded_place
@@ -229,7 +234,8 @@ module _ (P : Program) (context : List Fact) (f : FunId) (code : Code) (table : 
       let g = got-folded n code.places table code.entry.0 p' at' in
       let fine : HasFineFacts n (together n g.0.facts (facts_at table code.entry)) = together-fine n g.0.facts (facts_at table code.entry) in
       subst (λ (p : Place). AreAmong context p.facts) g.2
-      (among-allowed n context (Known context) (together n g.0.facts (facts_at table code.entry)) (All-contains_itself context) context-fine fine (λ regs count satisfied.
+      (among-allowed n context (Known context) (together n g.0.facts (facts_at table code.entry)) (All-contains_itself context) context-fine fine
+      (λ regs count satisfied.
       together-allows n g.0.facts (facts_at table code.entry) regs
       (among-allows context g.0.facts regs (sound.entry_facts g.0 g.1) satisfied)
       (among-allows context (facts_at table code.entry) regs consistent.entry satisfied)))
@@ -240,8 +246,11 @@ module _ (P : Program) (context : List Fact) (f : FunId) (code : Code) (table : 
       let few = subst (λ (g : FunId). ParamsWithin (slice_get P.functions g.0) n) sound.function sound.named.params in
       let within = taken-few callee n takes.0 few takes.1 in
       let fine = taken-fine callee context takes.0 fits takes.1 in
-      let count : length args ≤ n = omega (arith, within, takes.2) in
-      (length-entry n args count, among-allows context (facts_at table code.entry) (entry_regs n args) consistent.entry (satisfied-entry context n takes.0.params args fine (sym takes.2) satisfied))
+      let count : length args ≤ n = omega (arith, within, takes.2) in (
+        length-entry n args count,
+        among-allows context (facts_at table code.entry) (entry_regs n args) consistent.entry
+            (satisfied-entry context n takes.0.params args fine (sym takes.2) satisfied),
+      )
 
   pub folded_sound : Sound P context f (folded code table)
   unfolding folded

@@ -25,7 +25,8 @@ use Rattle.cj_draft.proofs.EdgeLemmas.{branch_in}
 use Rattle.cj_const.specs.declared.knowledge.Outcome.{Outcome}
 use Rattle.cj_const.specs.declared.knowledge.Outcome.TheVariants.{Unknown, Value, ZeroDivisor}
 use Rattle.cj_const.specs.Knowledge.{Knowledge, told_by, known_value, constant_or, folded_operand, folded_operands, evaluated}
-use Rattle.cj_const.specs.Folding.{copy_or, folded_expr, folded_pair, folded_cond, is_false, is_open, folded_guards, folded_instr, folded_by, clash, both, facts_below, together_of, together}
+use Rattle.cj_const.specs.Folding.{copy_or, folded_expr, folded_pair, folded_cond, is_false, is_open, folded_guards, folded_instr, folded_by, clash, both}
+use Rattle.cj_const.specs.Folding.{facts_below, together_of, together}
 use Rattle.cj_const.specs.Search.{WritesWithin}
 use Rattle.cj_const.proofs.Told.{below-fine}
 
@@ -84,10 +85,12 @@ pairs-fine k n pairs fine = record {
       let second = ap (λ (p : Pair). p.dest) (map-at (folded_pair k) pairs j d here) in
       λ e. fine.differ i j d lt here (sym first ∙ e ∙ second);
   operands = All-map (λ (p : Pair). IsOperandWithin n p.value) (folded_pair k) pairs
-      (All-weaker (λ (p : Pair). IsOperandWithin n p.value) (λ (p : Pair). IsOperandWithin n (folded_operand k p.value)) (λ p h. operand-within k n p.value h) pairs fine.operands);
+      (All-weaker (λ (p : Pair). IsOperandWithin n p.value) (λ (p : Pair). IsOperandWithin n (folded_operand k p.value))
+      (λ p h. operand-within k n p.value h) pairs fine.operands);
 }
 
-cond-fine : (P : Program) (n labels : ℕ) (test : Operand) (known : Option ℤ) (a b : Label) → IsVInstrFine P n labels (Cond test a b) → IsVInstrFine P n labels (folded_cond test known a b)
+cond-fine : (P : Program) (n labels : ℕ) (test : Operand) (known : Option ℤ) (a b : Label) → IsVInstrFine P n labels (Cond test a b) →
+    IsVInstrFine P n labels (folded_cond test known a b)
 unfolding folded_cond
 cond-fine P n labels test None a b fine = fine
 cond-fine P n labels test (Some v) a b fine = branch_in (λ (l : Label). l.0 < labels) v a b fine.1 fine.2
@@ -115,7 +118,8 @@ instr-fine P k n labels (Cond test a b) fine = cond-fine P n labels test (known_
 instr-fine P k n labels (Call dest f args next) fine = (
   fine.0,
   subst (Takes P.functions f) (sym (length-map args (folded_operand k))) fine.1,
-  All-map (IsOperandWithin n) (folded_operand k) args (All-weaker (IsOperandWithin n) (λ (o : Operand). IsOperandWithin n (folded_operand k o)) (λ o h. operand-within k n o h) args fine.2),
+  All-map (IsOperandWithin n) (folded_operand k) args
+      (All-weaker (IsOperandWithin n) (λ (o : Operand). IsOperandWithin n (folded_operand k o)) (λ o h. operand-within k n o h) args fine.2),
   fine.3,
 )
 instr-fine P k n labels (Return v) fine = operand-within k n v fine

@@ -69,14 +69,16 @@ length-folded n [] table count = refl
 length-folded n (place ∷ places) [] count = absurd (omega arith)
 length-folded n (place ∷ places) (facts ∷ table) count = ap suc (length-folded n places table (omega arith))
 
-pub get-folded : (n : ℕ) (places : List Place) (table : List Facts) (i : ℕ) (p : Place) → length table ≡ length places → slice_get places i ≡ Some p → slice_get (folded_places n places table) i ≡ Some (folded_place n p (slice_index_or table i Unreached))
+pub get-folded : (n : ℕ) (places : List Place) (table : List Facts) (i : ℕ) (p : Place) → length table ≡ length places → slice_get places i ≡ Some p →
+    slice_get (folded_places n places table) i ≡ Some (folded_place n p (slice_index_or table i Unreached))
 unfolding folded_places
 get-folded n [] table i p count e = absurd (none-some p e)
 get-folded n (place ∷ places) [] i p count e = absurd (omega arith)
 get-folded n (place ∷ places) (facts ∷ table) zero p count e = ap (λ (q : Place). Some (folded_place n q facts)) (same_Some place p e)
 get-folded n (place ∷ places) (facts ∷ table) (suc i) p count e = get-folded n places table i p (omega arith) e
 
-pub got-folded : (n : ℕ) (places : List Place) (table : List Facts) (i : ℕ) (p' : Place) → slice_get (folded_places n places table) i ≡ Some p' → (p : Place) × (slice_get places i ≡ Some p) × (folded_place n p (slice_index_or table i Unreached) ≡ p')
+pub got-folded : (n : ℕ) (places : List Place) (table : List Facts) (i : ℕ) (p' : Place) → slice_get (folded_places n places table) i ≡ Some p' →
+    (p : Place) × (slice_get places i ≡ Some p) × (folded_place n p (slice_index_or table i Unreached) ≡ p')
 unfolding folded_places
 got-folded n [] table i p' e = absurd (none-some p' e)
 got-folded n (place ∷ places) [] i p' e = absurd (none-some p' e)

@@ -10,7 +10,8 @@ use Rattle.cj_const.specs.Folding.{fact_if, facts_below, differ, clash, or_else,
 pub known-in : (items row : List (Option ℤ)) (r : ℕ) (value : Option ℤ) → value ≡ known items r → items ≡ row → value ≡ known row r
 known-in items row r value e same = e ∙ ap (λ (xs : List (Option ℤ)). known xs r) same
 
-pub below-more : (k : Knowledge) (n : ℕ) (facts new : List Fact) (value : Option ℤ) → facts ≡ facts_below k n → new ≡ facts ++ fact_if n value → value ≡ k n → new ≡ facts_below k (n + 1)
+pub below-more : (k : Knowledge) (n : ℕ) (facts new : List Fact) (value : Option ℤ) → facts ≡ facts_below k n → new ≡ facts ++ fact_if n value → value ≡ k n →
+    new ≡ facts_below k (n + 1)
 unfolding facts_below
 below-more k n facts new value e pushed same =
     let next : suc n ≡ n + 1 = omega arith in
@@ -29,7 +30,8 @@ pub clash-none : (k k' : Knowledge) → clash k k' 0 ≡ false
 unfolding clash
 clash-none k k' = refl
 
-pub clash-more : (k k' : Knowledge) (n : ℕ) (mine others : Option ℤ) (found : Bool) → clash k k' n ≡ false → mine ≡ k n → others ≡ k' n → found ≡ differ mine others → found ≡ false → clash k k' (n + 1) ≡ false
+pub clash-more : (k k' : Knowledge) (n : ℕ) (mine others : Option ℤ) (found : Bool) → clash k k' n ≡ false → mine ≡ k n → others ≡ k' n →
+    found ≡ differ mine others → found ≡ false → clash k k' (n + 1) ≡ false
 unfolding clash
 clash-more k k' n mine others found clear e e' is no_ =
     let next : suc n ≡ n + 1 = omega arith in
@@ -44,12 +46,14 @@ clash-found k k' n (suc m) e h = ⊎_elim
     (λ other. or_left (clash k k' m) (differ (k m) (k' m)) (clash-found k k' n m e (omega arith)))
     (cases_eq n m)
 
-pub together-clash : (k k' : Knowledge) (n m : ℕ) (mine others : Option ℤ) (found : Bool) → n < m → mine ≡ k n → others ≡ k' n → found ≡ differ mine others → found ≡ true → Unreached ≡ together_of m k k'
+pub together-clash : (k k' : Knowledge) (n m : ℕ) (mine others : Option ℤ) (found : Bool) → n < m → mine ≡ k n → others ≡ k' n → found ≡ differ mine others →
+    found ≡ true → Unreached ≡ together_of m k k'
 unfolding together_of
 together-clash k k' n m mine others found h e e' is yes_ =
     sym (cond-true (clash k k' m) Unreached (Known (facts_below (both k k') m)) (clash-found k k' n m (sym (is ∙ ap₂ differ e e') ∙ yes_) h))
 
-pub together-clear : (k k' : Knowledge) (n m : ℕ) (facts : List Fact) → n ≡ m → clash k k' n ≡ false → facts ≡ facts_below (both k k') n → Known facts ≡ together_of m k k'
+pub together-clear : (k k' : Knowledge) (n m : ℕ) (facts : List Fact) → n ≡ m → clash k k' n ≡ false → facts ≡ facts_below (both k k') n →
+    Known facts ≡ together_of m k k'
 unfolding together_of
 together-clear k k' n m facts e clear is =
     ap Known is

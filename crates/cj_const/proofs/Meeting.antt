@@ -1,5 +1,6 @@
 -- Rows that meet.
-use Rattle.std.proofs.Common.{◌≡◌, ℕ, zero, suc, ◌+◌, ◌<◌, ◌≤◌, Bool, true, false, cond, List, [], ◌∷◌, ◌++◌, length, drop, get_or, Option, Some, None, refl, sym, ap, ap₂, ◌∙◌, ⊎_elim, arith, append_assoc}
+use Rattle.std.proofs.Common.{◌≡◌, ℕ, zero, suc, ◌+◌, ◌<◌, ◌≤◌, Bool, true, false, cond, List, [], ◌∷◌, ◌++◌, length, drop, get_or, Option, Some, None, refl}
+use Rattle.std.proofs.Common.{sym, ap, ap₂, ◌∙◌, ⊎_elim, arith, append_assoc}
 use Rattle.std.specs.Prelude.{ℤ, ◌&&◌, count_by, if◌then◌else◌}
 use Rattle.std.proofs.lemmas.Option.{none-some, same_Some}
 use Rattle.std.proofs.lemmas.Bool.{cases_Bool, and_parts, and_cases, cond-true, cond-false}
@@ -12,15 +13,19 @@ use Rattle.cj_const.proofs.Rows.{drop-at, drop-end}
 
 -- ---- the loops
 
-within-next : (row others : List (Option ℤ)) (i : ℕ) (d e : Option ℤ) → i < length row → length others ≡ length row → is_within (drop i row) (drop i others) ≡ agrees (get_or row i d) (get_or others i e) && is_within (drop (i + 1) row) (drop (i + 1) others)
+within-next : (row others : List (Option ℤ)) (i : ℕ) (d e : Option ℤ) → i < length row → length others ≡ length row →
+    is_within (drop i row) (drop i others) ≡ agrees (get_or row i d) (get_or others i e) && is_within (drop (i + 1) row) (drop (i + 1) others)
 unfolding is_within
 within-next row others i d e h count = ap₂ is_within (drop-at row i d h) (drop-at others i e (omega arith))
 
-pub within-more : (row others : List (Option ℤ)) (i : ℕ) (d e : Option ℤ) (same all : Bool) → i < length row → length others ≡ length row → same ≡ agrees (get_or row i d) (get_or others i e) → same ≡ true → is_within (drop i row) (drop i others) ≡ all → is_within (drop (i + 1) row) (drop (i + 1) others) ≡ all
+pub within-more : (row others : List (Option ℤ)) (i : ℕ) (d e : Option ℤ) (same all : Bool) → i < length row → length others ≡ length row →
+    same ≡ agrees (get_or row i d) (get_or others i e) → same ≡ true → is_within (drop i row) (drop i others) ≡ all →
+    is_within (drop (i + 1) row) (drop (i + 1) others) ≡ all
 within-more row others i d e same all h count is yes_ left =
     ap (λ b. b && is_within (drop (i + 1) row) (drop (i + 1) others)) (sym yes_ ∙ is) ∙ sym (within-next row others i d e h count) ∙ left
 
-pub within-fails : (row others : List (Option ℤ)) (i : ℕ) (d e : Option ℤ) (same all : Bool) → i < length row → length others ≡ length row → same ≡ agrees (get_or row i d) (get_or others i e) → same ≡ false → is_within (drop i row) (drop i others) ≡ all → false ≡ all
+pub within-fails : (row others : List (Option ℤ)) (i : ℕ) (d e : Option ℤ) (same all : Bool) → i < length row → length others ≡ length row →
+    same ≡ agrees (get_or row i d) (get_or others i e) → same ≡ false → is_within (drop i row) (drop i others) ≡ all → false ≡ all
 within-fails row others i d e same all h count is no_ left =
     ap (λ b. b && is_within (drop (i + 1) row) (drop (i + 1) others)) (sym no_ ∙ is) ∙ sym (within-next row others i d e h count) ∙ left
 
@@ -28,7 +33,9 @@ pub within-all : (row others : List (Option ℤ)) (i : ℕ) (all : Bool) → len
 unfolding is_within
 within-all row others i all h left = sym (ap (λ (xs : List (Option ℤ)). is_within xs (drop i others)) (drop-end row i h)) ∙ left
 
-pub met-more : (row others : List (Option ℤ)) (i : ℕ) (d e x : Option ℤ) (made new all : List (Option ℤ)) → i < length row → length others ≡ length row → x ≡ kept_slot (get_or row i d) (get_or others i e) → new ≡ made ++ x ∷ [] → made ++ met (drop i row) (drop i others) ≡ all → new ++ met (drop (i + 1) row) (drop (i + 1) others) ≡ all
+pub met-more : (row others : List (Option ℤ)) (i : ℕ) (d e x : Option ℤ) (made new all : List (Option ℤ)) → i < length row → length others ≡ length row →
+    x ≡ kept_slot (get_or row i d) (get_or others i e) → new ≡ made ++ x ∷ [] → made ++ met (drop i row) (drop i others) ≡ all →
+    new ++ met (drop (i + 1) row) (drop (i + 1) others) ≡ all
 unfolding met
 met-more row others i d e x made new all h count is pushed left =
     let rest = met (drop (i + 1) row) (drop (i + 1) others) in
@@ -79,7 +86,8 @@ length-met [] others count = refl
 length-met (s ∷ row) [] count = absurd (omega arith)
 length-met (s ∷ row) (o ∷ others) count = ap suc (length-met row others (omega arith))
 
-met-at : (row others : List (Option ℤ)) (r : ℕ) → length others ≡ length row → get_or (met row others) r None ≡ kept_slot (get_or row r None) (get_or others r None)
+met-at : (row others : List (Option ℤ)) (r : ℕ) → length others ≡ length row →
+    get_or (met row others) r None ≡ kept_slot (get_or row r None) (get_or others r None)
 unfolding met kept_slot agrees
 met-at [] [] r count = refl
 met-at [] (o ∷ others) r count = absurd (omega arith)
@@ -97,11 +105,13 @@ unfolding known
 met-second row others count r v e = (kept-both (get_or row r None) (get_or others r None) v (sym (met-at row others r count) ∙ e)).1
 
 -- and all that each tells is told by both
-pub met-tells : (row others : List (Option ℤ)) (r : ℕ) (v : ℤ) → length others ≡ length row → known row r ≡ Some v → known others r ≡ Some v → known (met row others) r ≡ Some v
+pub met-tells : (row others : List (Option ℤ)) (r : ℕ) (v : ℤ) → length others ≡ length row → known row r ≡ Some v → known others r ≡ Some v →
+    known (met row others) r ≡ Some v
 unfolding known
 met-tells row others r v count e e' = met-at row others r count ∙ both-kept (get_or row r None) (get_or others r None) v e e'
 
-within-at : (row others : List (Option ℤ)) (r : ℕ) → length others ≡ length row → is_within row others ≡ true → agrees (get_or row r None) (get_or others r None) ≡ true
+within-at : (row others : List (Option ℤ)) (r : ℕ) → length others ≡ length row → is_within row others ≡ true →
+    agrees (get_or row r None) (get_or others r None) ≡ true
 unfolding is_within agrees
 within-at [] others r count yes_ = refl
 within-at (s ∷ row) [] r count yes_ = absurd (omega arith)
@@ -142,7 +152,8 @@ met-le (s ∷ row) (o ∷ others) count =
     let old = sum_by-cons (λ z. one_if (is_known z)) s row in
     omega arith
 
-pub met-fewer : (row others : List (Option ℤ)) → length others ≡ length row → is_within row others ≡ false → count_by is_known (met row others) < count_by is_known row
+pub met-fewer : (row others : List (Option ℤ)) → length others ≡ length row → is_within row others ≡ false →
+    count_by is_known (met row others) < count_by is_known row
 unfolding met is_within
 met-fewer [] others count no_ = absurd (cc)
 met-fewer (s ∷ row) [] count no_ = absurd (omega arith)

@@ -54,7 +54,8 @@ value-less k k' (operand.Const c) less v e = e
 
 -- ---- expressions
 
-register-same : (r : Reg) (known known' : Option ℤ) → LessAt known known' → is_constant (constant_or (operand.Reg r) known) ≡ true → constant_or (operand.Reg r) known' ≡ constant_or (operand.Reg r) known
+register-same : (r : Reg) (known known' : Option ℤ) → LessAt known known' → is_constant (constant_or (operand.Reg r) known) ≡ true →
+    constant_or (operand.Reg r) known' ≡ constant_or (operand.Reg r) known
 unfolding constant_or is_constant
 register-same r (Some v) known' at e = ap (constant_or (operand.Reg r)) (at v refl)
 register-same r None known' at e = absurd (cc)
@@ -67,7 +68,9 @@ operand-same k k' (operand.Const c) less e = refl
 one-same : (k k' : Knowledge) (a : Operand) → TellsNoMore k k' → is_constant (folded_operand k a) && true ≡ true → folded_operand k' a ≡ folded_operand k a
 one-same k k' a less e = operand-same k k' a less (and_parts (is_constant (folded_operand k a)) true e).0
 
-two-same : (k k' : Knowledge) (f : Operand → Operand → Expr) (a b : Operand) → TellsNoMore k k' → is_constant (folded_operand k a) && (is_constant (folded_operand k b) && true) ≡ true → f (folded_operand k' a) (folded_operand k' b) ≡ f (folded_operand k a) (folded_operand k b)
+two-same : (k k' : Knowledge) (f : Operand → Operand → Expr) (a b : Operand) → TellsNoMore k k' →
+    is_constant (folded_operand k a) && (is_constant (folded_operand k b) && true) ≡ true →
+    f (folded_operand k' a) (folded_operand k' b) ≡ f (folded_operand k a) (folded_operand k b)
 two-same k k' f a b less e =
     let h = and_parts (is_constant (folded_operand k a)) (is_constant (folded_operand k b) && true) e in
     ap₂ f (operand-same k k' a less h.0) (one-same k k' b less h.1)
@@ -101,15 +104,19 @@ unknown : (e : Expr) → are_constants e ≡ false → evaluated e ≡ Unknown
 unfolding evaluated
 unknown e no_ = cond-false (are_constants e) _ Unknown no_
 
-expr-less : (k k' : Knowledge) (dest : Reg) (e : Expr) → TellsNoMore k k' → SaysLess (after_op k dest (evaluated (folded_operands k e))) (after_op k' dest (evaluated (folded_operands k' e)))
+expr-less : (k k' : Knowledge) (dest : Reg) (e : Expr) → TellsNoMore k k' →
+    SaysLess (after_op k dest (evaluated (folded_operands k e))) (after_op k' dest (evaluated (folded_operands k' e)))
 expr-less k k' dest e less = ⊎_elim
-    (λ yes_. subst (λ x. SaysLess (after_op k dest (evaluated (folded_operands k e))) (after_op k' dest (evaluated x))) (sym (operands-same k k' e less yes_)) (op-less k k' dest (evaluated (folded_operands k e)) less))
-    (λ no_. subst (λ x. SaysLess (after_op k dest x) (after_op k' dest (evaluated (folded_operands k' e)))) (sym (unknown (folded_operands k e) no_)) (unknown-less k k' dest (evaluated (folded_operands k' e)) less))
+    (λ yes_. subst (λ x. SaysLess (after_op k dest (evaluated (folded_operands k e))) (after_op k' dest (evaluated x))) (sym (operands-same k k' e less yes_))
+    (op-less k k' dest (evaluated (folded_operands k e)) less))
+    (λ no_. subst (λ x. SaysLess (after_op k dest x) (after_op k' dest (evaluated (folded_operands k' e)))) (sym (unknown (folded_operands k e) no_))
+    (unknown-less k k' dest (evaluated (folded_operands k' e)) less))
     (cases_Bool (are_constants (folded_operands k e)))
 
 -- ---- moves, conds and guards
 
-move-less : (k k' : Knowledge) (pairs : List Pair) (now now' : Knowledge) → TellsNoMore k k' → TellsNoMore now now' → TellsNoMore (after_move k pairs now) (after_move k' pairs now')
+move-less : (k k' : Knowledge) (pairs : List Pair) (now now' : Knowledge) → TellsNoMore k k' → TellsNoMore now now' →
+    TellsNoMore (after_move k pairs now) (after_move k' pairs now')
 unfolding after_move
 move-less k k' [] now now' less at = at
 move-less k k' (pair ∷ pairs) now now' less at =
@@ -131,14 +138,16 @@ along-less k k' None (Some w) a b to less at = if-more ((branch w a b).0 == to.0
 along-less k k' (Some v) o' a b to less at =
     subst (λ z. SaysLess (along k (Some v) a b to) (along k' z a b to)) (sym (at v refl)) (if-less ((branch v a b).0 == to.0) k k' less)
 
-guarded-less : (b : Bool) (k k' : Knowledge) (r : ℕ) (v : ℤ) → TellsNoMore k k' → (b ≡ true → k' r ≡ Some v) → SaysLess (Some (with_known k r (Some v))) (if b then Some k' else None)
+guarded-less : (b : Bool) (k k' : Knowledge) (r : ℕ) (v : ℤ) → TellsNoMore k k' → (b ≡ true → k' r ≡ Some v) →
+    SaysLess (Some (with_known k r (Some v))) (if b then Some k' else None)
 guarded-less false k k' r v less at = tt
 guarded-less true k k' r v less at = λ q w e. ⊎_elim
     (λ same. ap k' same ∙ at refl ∙ sym (at-written k r q (Some v) same) ∙ e)
     (λ other. less q w (sym (at-other k r q (Some v) other) ∙ e))
     (cases_eq q r)
 
-value_guard-less : (k k' : Knowledge) (reg : Reg) (v : ℤ) (o o' : Option ℤ) → TellsNoMore k k' → k' reg.0 ≡ o' → LessAt o o' → SaysLess (with_value k reg v o) (with_value k' reg v o')
+value_guard-less : (k k' : Knowledge) (reg : Reg) (v : ℤ) (o o' : Option ℤ) → TellsNoMore k k' → k' reg.0 ≡ o' → LessAt o o' →
+    SaysLess (with_value k reg v o) (with_value k' reg v o')
 unfolding with_value
 value_guard-less k k' reg v None None less is at = with-less k k' reg.0 (Some v) (Some v) less (λ w e. e)
 value_guard-less k k' reg v None (Some w) less is at =
@@ -156,7 +165,8 @@ guard-less Never (Some k) (Some k') less = tt
 guards-less : (guards : List Guard) (o o' : Option Knowledge) → SaysLess o o' → SaysLess (with_guards guards o) (with_guards guards o')
 unfolding with_guards
 guards-less [] o o' less = less
-guards-less (guard ∷ guards) o o' less = guards-less guards (option_and_then (with_guard guard) o) (option_and_then (with_guard guard) o') (guard-less guard o o' less)
+guards-less (guard ∷ guards) o o' less = guards-less guards (option_and_then (with_guard guard) o) (option_and_then (with_guard guard) o')
+    (guard-less guard o o' less)
 
 -- ---- instructions
 

@@ -1,5 +1,6 @@
 -- Rows, what they know, and what facts tell of registers.
-use Rattle.std.proofs.Common.{◌≡◌, ◌≢◌, ℕ, zero, suc, ◌+◌, ◌<◌, ◌≤◌, ◌==◌, true, List, [], ◌∷◌, ◌++◌, length, drop, get_or, Option, Some, None, refl, sym, ap, ◌∙◌, ⊎_elim, arith, add-one, drop-cons, length-append}
+use Rattle.std.proofs.Common.{◌≡◌, ◌≢◌, ℕ, zero, suc, ◌+◌, ◌<◌, ◌≤◌, ◌==◌, true, List, [], ◌∷◌, ◌++◌, length, drop, get_or, Option, Some, None, refl, sym, ap}
+use Rattle.std.proofs.Common.{◌∙◌, ⊎_elim, arith, add-one, drop-cons, length-append}
 use Rattle.std.specs.Prelude.{ℤ, ◌&&◌, All, slice_set, slice_index_or, if◌then◌else◌}
 use Rattle.std.proofs.Math.Path.{fun_ext}
 use Rattle.std.proofs.lemmas.Bool.{cases_eq, cases_lt, eq-eqb, ne_eqb, and_parts, cond-true, cond-false}
@@ -34,11 +35,13 @@ pub told-rest : (x : Fact) (facts : List Fact) (r : ℕ) → x.reg.0 ≢ r → t
 unfolding told_by
 told-rest x facts r e = cond-false (x.reg.0 == r) (Some x.value) (told_by facts r) (ne_eqb x.reg.0 r e)
 
-pub told-here : (facts : List Fact) (i : ℕ) (d : Fact) (r : ℕ) → i < length facts → (get_or facts i d).reg.0 ≡ r → told_by (drop i facts) r ≡ told_by facts r → told_by facts r ≡ Some (get_or facts i d).value
+pub told-here : (facts : List Fact) (i : ℕ) (d : Fact) (r : ℕ) → i < length facts → (get_or facts i d).reg.0 ≡ r → told_by (drop i facts) r ≡ told_by facts r →
+    told_by facts r ≡ Some (get_or facts i d).value
 told-here facts i d r h e same =
     sym same ∙ ap (λ (xs : List Fact). told_by xs r) (drop-at facts i d h) ∙ told-first (get_or facts i d) (drop (i + 1) facts) r e
 
-pub told-past : (facts : List Fact) (i : ℕ) (d : Fact) (r : ℕ) → i < length facts → (get_or facts i d).reg.0 ≢ r → told_by (drop i facts) r ≡ told_by facts r → told_by (drop (i + 1) facts) r ≡ told_by facts r
+pub told-past : (facts : List Fact) (i : ℕ) (d : Fact) (r : ℕ) → i < length facts → (get_or facts i d).reg.0 ≢ r → told_by (drop i facts) r ≡ told_by facts r →
+    told_by (drop (i + 1) facts) r ≡ told_by facts r
 told-past facts i d r h e same =
     sym (told-rest (get_or facts i d) (drop (i + 1) facts) r e) ∙ sym (ap (λ (xs : List Fact). told_by xs r) (drop-at facts i d h)) ∙ same
 
@@ -54,7 +57,8 @@ known-set row dest now h = fun_ext at
   where
     at : (r : ℕ) → slice_index_or (slice_set row dest now) r None ≡ (if r == dest then now else slice_index_or row r None)
     at r = ⊎_elim
-        (λ e. ap (λ (k : ℕ). slice_index_or (slice_set row dest now) k None) e ∙ get_or-set_same row dest now None h ∙ sym (cond-true (r == dest) now (slice_index_or row r None) (eq-eqb r dest e)))
+        (λ e. ap (λ (k : ℕ). slice_index_or (slice_set row dest now) k None) e ∙ get_or-set_same row dest now None h
+        ∙ sym (cond-true (r == dest) now (slice_index_or row r None) (eq-eqb r dest e)))
         (λ n. get_or-set_other row dest r now None n ∙ sym (cond-false (r == dest) now (slice_index_or row r None) (ne_eqb r dest n)))
         (cases_eq r dest)
 
@@ -70,7 +74,8 @@ pub known-below : (k : Knowledge) (n r : ℕ) → r < n → slice_index_or (row_
 unfolding row_below
 known-below k zero r h = absurd (omega arith)
 known-below k (suc n) r h = ⊎_elim
-    (λ e. ap (λ j. slice_index_or (row_below k n ++ k n ∷ []) j None) (e ∙ sym (length-row_below k n)) ∙ get_or-append_seam (row_below k n) (k n) [] None ∙ ap k (sym e))
+    (λ e. ap (λ j. slice_index_or (row_below k n ++ k n ∷ []) j None) (e ∙ sym (length-row_below k n)) ∙ get_or-append_seam (row_below k n) (k n) [] None
+    ∙ ap k (sym e))
     (λ ne. get_or-append (row_below k n) (k n ∷ []) None r (omega (arith, length-row_below k n)) ∙ known-below k n r (omega arith))
     (cases_eq r n)
 
@@ -89,7 +94,8 @@ known-row_below facts n within = fun_ext at
     at : (r : ℕ) → slice_index_or (row_below (told_by facts) n) r None ≡ told_by facts r
     at r = ⊎_elim
         (λ below. known-below (told_by facts) n r below)
-        (λ above. get_or_past (row_below (told_by facts) n) r None (omega (arith, length-row_below (told_by facts) n)) ∙ sym (told-no_register facts n r within above))
+        (λ above. get_or_past (row_below (told_by facts) n) r None (omega (arith, length-row_below (told_by facts) n))
+        ∙ sym (told-no_register facts n r within above))
         (cases_lt r n)
 
 -- ---- constants
@@ -121,5 +127,6 @@ constants_within n (Eq a b) e = two_within n a b e
 constants_within n (Lt a b) e = two_within n a b e
 
 -- the row that is written, where its write is known
-pub known_after : (row made : List (Option ℤ)) (dest : ℕ) (now : Option ℤ) → made ≡ slice_set row dest now → dest < length row → known made ≡ with_known (known row) dest now
+pub known_after : (row made : List (Option ℤ)) (dest : ℕ) (now : Option ℤ) → made ≡ slice_set row dest now → dest < length row →
+    known made ≡ with_known (known row) dest now
 known_after row made dest now e h = ap known e ∙ known-set row dest now h

@@ -1,5 +1,6 @@
 -- What the search keeps as it begins, and that its facts are the strongest where no label waits.
-use Rattle.std.proofs.Common.{◌≡◌, ◌≢◌, ℕ, suc, ◌<◌, ◌⊎◌, List, [], ◌∷◌, length, map, get_or, replicate, Option, Some, None, refl, sym, ap, ap₂, ◌∙◌, subst, inl, inr, ⊎_elim, arith, length-set}
+use Rattle.std.proofs.Common.{◌≡◌, ◌≢◌, ℕ, suc, ◌<◌, ◌⊎◌, List, [], ◌∷◌, length, map, get_or, replicate, Option, Some, None, refl, sym, ap, ap₂, ◌∙◌, subst}
+use Rattle.std.proofs.Common.{inl, inr, ⊎_elim, arith, length-set}
 use Rattle.std.specs.Prelude.{ℤ, All, Contains, slice_set, slice_index_or}
 use Rattle.std.specs.Option.{option_map}
 use Rattle.std.proofs.Math.ListN.{get_or-map}
@@ -50,7 +51,8 @@ among-within n context Unreached fine among = absurd among
 among-within n context (Known facts) fine among =
     All-weaker (Contains context) (λ (x : Fact). told_by context x.reg.0 ≡ Some x.value) (λ x c. fine-told n context x fine c) facts among
 
-module _ (context : List Fact) (code : Code) (rows : Rows) (w : Waiting) (row : Row) (params : ℕ) (fine : AreFactsFine params context) (told : known row ≡ told_by context) (width : length row ≡ code.regs) (within : code.entry.0 < length code.places)
+module _ (context : List Fact) (code : Code) (rows : Rows) (w : Waiting) (row : Row) (params : ℕ) (fine : AreFactsFine params context)
+    (told : known row ≡ told_by context) (width : length row ≡ code.regs) (within : code.entry.0 < length code.places)
     (is : rows ≡ slice_set (replicate (length code.places) None) code.entry.0 (Some row)) (lets : LetsWait (none_waits (length code.places)) w code.entry) where
   abbrev none : Rows
   none = replicate (length code.places) None
@@ -84,7 +86,8 @@ module _ (context : List Fact) (code : Code) (rows : Rows) (w : Waiting) (row : 
   search-begins = record {
     found = record {
       count = ap length is ∙ length-set none code.entry.0 (Some row) ∙ count;
-      widths = subst (All (HasWidth code.regs)) (sym is) (All-set (HasWidth code.regs) none code.entry.0 (Some row) width (All-replicate (HasWidth code.regs) (length code.places) None tt));
+      widths = subst (All (HasWidth code.regs)) (sym is)
+          (All-set (HasWidth code.regs) none code.entry.0 (Some row) width (All-replicate (HasWidth code.regs) (length code.places) None tt));
       entry = subst (λ o. SaysLess o (Some (told_by context))) (sym at-entry) (λ r v e. e);
       above = begun-above;
       edges = λ x to place at c. begun-edges x to place;
@@ -160,11 +163,13 @@ module _ (context : List Fact) (code : Code) (rows : Rows) (w : Waiting) (s : Is
       (λ holds. holds)
       (s.found.edges x to place at' c)
 
-  edges : (x to : Label) (place : Place) (facts : List Fact) → place_at code x ≡ Some place → facts_at table x ≡ Known facts → Contains (successors place.instr) to → IsWithin (facts_at table to) (leaves (told_by facts) place.instr to)
+  edges : (x to : Label) (place : Place) (facts : List Fact) → place_at code x ≡ Some place → facts_at table x ≡ Known facts →
+      Contains (successors place.instr) to → IsWithin (facts_at table to) (leaves (told_by facts) place.instr to)
   unfolding facts_in
   edges x to place facts at' e c = by_row (slice_index_or rows x.0 None) refl (sym (at x) ∙ e)
     where
-      by_row : (o : Option Row) → slice_index_or rows x.0 None ≡ o → facts_in n (slice_index_or rows x.0 None) ≡ Known facts → IsWithin (facts_at table to) (leaves (told_by facts) place.instr to)
+      by_row : (o : Option Row) → slice_index_or rows x.0 None ≡ o → facts_in n (slice_index_or rows x.0 None) ≡ Known facts →
+          IsWithin (facts_at table to) (leaves (told_by facts) place.instr to)
       by_row None is known_ = absurd (unreached-known (sym (ap (facts_in n) is) ∙ known_))
         where
           unreached-known : Unreached ≡ Known facts → ⊥

@@ -1,5 +1,6 @@
 -- A row that arrives keeps what the search keeps, and leaves less to do.
-use Rattle.std.proofs.Common.{◌≡◌, ◌≢◌, ℕ, ◌<◌, ◌≤◌, ◌⊎◌, true, false, List, ◌∷◌, length, Option, Some, None, refl, sym, ap, ◌∙◌, subst, inl, inr, ⊎_elim, arith, length-set}
+use Rattle.std.proofs.Common.{◌≡◌, ◌≢◌, ℕ, ◌<◌, ◌≤◌, ◌⊎◌, true, false, List, ◌∷◌, length, Option, Some, None, refl, sym, ap, ◌∙◌, subst, inl, inr, ⊎_elim}
+use Rattle.std.proofs.Common.{arith, length-set}
 use Rattle.std.specs.Prelude.{ℤ, All, Contains, sum_by, slice_set, slice_index_or}
 use Rattle.std.specs.Option.{option_map}
 use Rattle.std.proofs.lemmas.Option.{same_Some}
@@ -20,7 +21,8 @@ use Rattle.cj_draft.specs.Arrives.{place_at}
 use Rattle.cj_draft.specs.Edges.{successors}
 use Rattle.cj_const.specs.Knowledge.{Knowledge, told_by, known}
 use Rattle.cj_const.specs.Flow.{leaves, facts_at, IsWithin, IsConsistent}
-use Rattle.cj_const.specs.Search.{TellsNoMore, SaysLess, is_within, met, reached_at, HasWidth, EdgeHolds, IsFollowing, is_known, rank, work_left, LetsWait, is_news, met_with, HasArrived}
+use Rattle.cj_const.specs.Search.{TellsNoMore, SaysLess, is_within, met, reached_at, HasWidth, EdgeHolds, IsFollowing, is_known, rank, work_left, LetsWait}
+use Rattle.cj_const.specs.Search.{is_news, met_with, HasArrived}
 use Rattle.cj_const.proofs.Told.{fact, told-contains}
 use Rattle.cj_const.proofs.Monotone.{leaves-less}
 use Rattle.cj_const.proofs.Meeting.{length-met, met-first, met-second, met-tells, within-tells, met-fewer}
@@ -64,7 +66,9 @@ reached-other rows to x row h = ap (option_map known) (get_or-set_other rows to.
 -- ---- an edge of the label that is followed
 
 -- what arrives along an edge from a label says no less than a consistent table does
-pub arrives-above : (context : List Fact) (code : Code) (table : List Facts) (label to : Label) (p : Place) (k : Knowledge) → IsConsistent context code table → place_at code label ≡ Some p → Contains (successors p.instr) to → IsWithin (facts_at table label) (Some k) → IsWithin (facts_at table to) (leaves k p.instr to)
+pub arrives-above : (context : List Fact) (code : Code) (table : List Facts) (label to : Label) (p : Place) (k : Knowledge) → IsConsistent context code table →
+    place_at code label ≡ Some p → Contains (successors p.instr) to → IsWithin (facts_at table label) (Some k) →
+    IsWithin (facts_at table to) (leaves k p.instr to)
 arrives-above context code table label to p k consistent at edge within = by_facts (facts_at table label) refl within
   where
     by_facts : (facts : Facts) → facts_at table label ≡ facts → IsWithin facts (Some k) → IsWithin (facts_at table to) (leaves k p.instr to)
@@ -73,7 +77,8 @@ arrives-above context code table label to p k consistent at edge within = by_fac
         within-less (facts_at table to) (leaves (told_by facts) p.instr to) (leaves k p.instr to) (consistent.edges label to p facts at e edge)
         (leaves-less (told_by facts) k p.instr to (told-less facts k within))
 
-module _ (context : List Fact) (code : Code) (rows : Rows) (w : Waiting) (label to : Label) (left : List Label) (p : Place) (at : place_at code label ≡ Some p) (edge : Contains (successors p.instr) to) (s : IsFollowing context code rows w label (to ∷ left)) where
+module _ (context : List Fact) (code : Code) (rows : Rows) (w : Waiting) (label to : Label) (left : List Label) (p : Place) (at : place_at code label ≡ Some p)
+    (edge : Contains (successors p.instr) to) (s : IsFollowing context code rows w label (to ∷ left)) where
   -- the edge holds already
   pub edge-holds : EdgeHolds rows p.instr label to → IsFollowing context code rows w label left
   edge-holds holds = record {
@@ -103,7 +108,8 @@ module _ (context : List Fact) (code : Code) (rows : Rows) (w : Waiting) (label 
           (subst (λ (x : Label). EdgeHolds rows q.instr x to) (sym e) (subst (λ (z : Place). EdgeHolds rows z.instr label to) same holds))
 
   -- the row at the edge's end is written
-  module _ (k arrival : Knowledge) (here : reached_at rows label ≡ Some k) (arrives : leaves k p.instr to ≡ Some arrival) (row : Row) (within : to.0 < length rows) (width : length row ≡ code.regs)
+  module _ (k arrival : Knowledge) (here : reached_at rows label ≡ Some k) (arrives : leaves k p.instr to ≡ Some arrival) (row : Row)
+      (within : to.0 < length rows) (width : length row ≡ code.regs)
       (less : SaysLess (Some (known row)) (reached_at rows to)) (second : TellsNoMore (known row) arrival)
       (greatest : (facts : Facts) → IsWithin facts (reached_at rows to) → IsWithin facts (Some arrival) → IsWithin facts (Some (known row)))
       (w' : Waiting) (lets : LetsWait w w' to) where
@@ -112,7 +118,8 @@ module _ (context : List Fact) (code : Code) (rows : Rows) (w : Waiting) (label 
 
     all-less : (x : Label) → SaysLess (reached_at rows' x) (reached_at rows x)
     all-less x = ⊎_elim
-        (λ e. subst (λ (y : Label). SaysLess (reached_at rows' y) (reached_at rows y)) (sym (same_label x to e)) (subst (λ o. SaysLess o (reached_at rows to)) (sym (reached-same rows to row within)) less))
+        (λ e. subst (λ (y : Label). SaysLess (reached_at rows' y) (reached_at rows y)) (sym (same_label x to e))
+        (subst (λ o. SaysLess o (reached_at rows to)) (sym (reached-same rows to row within)) less))
         (λ other. subst (λ o. SaysLess o (reached_at rows x)) (sym (reached-other rows to x row other)) (less-self (reached_at rows x)))
         (cases_eq x.0 to.0)
 
@@ -120,7 +127,8 @@ module _ (context : List Fact) (code : Code) (rows : Rows) (w : Waiting) (label 
     above-to table consistent =
         let from : IsWithin (facts_at table label) (Some k) = subst (IsWithin (facts_at table label)) here (s.found.above table consistent label) in
         subst (IsWithin (facts_at table to)) (sym (reached-same rows to row within))
-        (greatest (facts_at table to) (s.found.above table consistent to) (subst (IsWithin (facts_at table to)) arrives (arrives-above context code table label to p k consistent at edge from)))
+        (greatest (facts_at table to) (s.found.above table consistent to)
+        (subst (IsWithin (facts_at table to)) arrives (arrives-above context code table label to p k consistent at edge from)))
 
     above' : (table : List Facts) → IsConsistent context code table → (x : Label) → IsWithin (facts_at table x) (reached_at rows' x)
     above' table consistent x = ⊎_elim
@@ -141,7 +149,8 @@ module _ (context : List Fact) (code : Code) (rows : Rows) (w : Waiting) (label 
         (subst (SaysLess (reached_at rows' to)) (sym arrives) (subst (λ o. SaysLess o (Some arrival)) (sym (reached-same rows to row within)) second))))
         (cases_eq label.0 to.0)
 
-    moved' : (from next : Label) (q : Place) → place_at code from ≡ Some q → from ≡ label → to ≡ next → EdgeHolds rows' p.instr label to → EdgeHolds rows' q.instr from next
+    moved' : (from next : Label) (q : Place) → place_at code from ≡ Some q → from ≡ label → to ≡ next → EdgeHolds rows' p.instr label to →
+        EdgeHolds rows' q.instr from next
     moved' from next q at' e e' holds =
         let same : p ≡ q = same_Some p q (sym at ∙ ap (place_at code) (sym e) ∙ at') in
         subst (λ (y : Label). EdgeHolds rows' q.instr from y) e'
@@ -150,7 +159,8 @@ module _ (context : List Fact) (code : Code) (rows : Rows) (w : Waiting) (label 
     abbrev Open : Label → Label → Type 0
     Open from next = Contains w'.list from ⊎ ((from ≡ label) × Contains left next)
 
-    edges' : (from next : Label) (q : Place) → place_at code from ≡ Some q → Contains (successors q.instr) next → Open from next ⊎ EdgeHolds rows' q.instr from next
+    edges' : (from next : Label) (q : Place) → place_at code from ≡ Some q → Contains (successors q.instr) next →
+        Open from next ⊎ EdgeHolds rows' q.instr from next
     edges' from next q at' c = ⊎_elim
         (λ opened. ⊎_elim
         (λ waits. inl (inl (lets.still from waits)))
@@ -165,7 +175,8 @@ module _ (context : List Fact) (code : Code) (rows : Rows) (w : Waiting) (label 
         (λ old. ⊎_elim
         (λ e. inl (inl (waits-now from e)))
         (λ other. inr (λ k'' is.
-        less-trans (reached_at rows' next) (reached_at rows next) (leaves k'' q.instr next) (all-less next) (old k'' (sym (reached-other rows to from row other) ∙ is))))
+        less-trans (reached_at rows' next) (reached_at rows next) (leaves k'' q.instr next) (all-less next)
+        (old k'' (sym (reached-other rows to from row other) ∙ is))))
         (cases_eq from.0 to.0))
         (s.found.edges from next q at' c)
 
@@ -183,13 +194,17 @@ module _ (context : List Fact) (code : Code) (rows : Rows) (w : Waiting) (label 
 
 -- ---- a row that arrives
 
-met-greatest : (row others : Row) → length others ≡ length row → (facts : Facts) → IsWithin facts (Some (known row)) → IsWithin facts (Some (known others)) → IsWithin facts (Some (known (met row others)))
+met-greatest : (row others : Row) → length others ≡ length row → (facts : Facts) → IsWithin facts (Some (known row)) → IsWithin facts (Some (known others)) →
+    IsWithin facts (Some (known (met row others)))
 met-greatest row others count Unreached h h' = absurd h
 met-greatest row others count (Known facts) h h' = λ i d lt. met-tells row others _ _ count (h i d lt) (h' i d lt)
 
-module _ (context : List Fact) (code : Code) (rows rows' : Rows) (w w' : Waiting) (label to : Label) (left : List Label) (p : Place) (at : place_at code label ≡ Some p) (edge : Contains (successors p.instr) to) (s : IsFollowing context code rows w label (to ∷ left))
-    (k : Knowledge) (here : reached_at rows label ≡ Some k) (arrival : Row) (arrives : leaves k p.instr to ≡ Some (known arrival)) (within : to.0 < length rows) (width : length arrival ≡ code.regs) where
-  arrived-news : (o : Option Row) → slice_index_or rows to.0 None ≡ o → is_news o arrival ≡ true → LetsWait w w' to → IsFollowing context code (slice_set rows to.0 (Some (met_with o arrival))) w' label left
+module _ (context : List Fact) (code : Code) (rows rows' : Rows) (w w' : Waiting) (label to : Label) (left : List Label) (p : Place) (at : place_at code label
+    ≡ Some p) (edge : Contains (successors p.instr) to) (s : IsFollowing context code rows w label (to ∷ left))
+    (k : Knowledge) (here : reached_at rows label ≡ Some k) (arrival : Row) (arrives : leaves k p.instr to ≡ Some (known arrival))
+    (within : to.0 < length rows) (width : length arrival ≡ code.regs) where
+  arrived-news : (o : Option Row) → slice_index_or rows to.0 None ≡ o → is_news o arrival ≡ true → LetsWait w w' to →
+      IsFollowing context code (slice_set rows to.0 (Some (met_with o arrival))) w' label left
   unfolding is_news met_with
   arrived-news None e news lets =
       row-written context code rows w label to left p at edge s k (known arrival) here arrives arrival within width
@@ -216,17 +231,20 @@ module _ (context : List Fact) (code : Code) (rows rows' : Rows) (w w' : Waiting
   pub row-arrived : HasArrived rows w to arrival rows' w' → IsFollowing context code rows' w' label left
   row-arrived h = ⊎_elim
       (λ news. subst (λ (r : Rows). IsFollowing context code r w' label left) (sym news.1) (arrived-news (slice_index_or rows to.0 None) refl news.0 news.2))
-      (λ none. subst (λ (r : Rows). IsFollowing context code r w' label left) (sym none.1) (subst (λ (v : Waiting). IsFollowing context code rows v label left) (sym none.2) (arrived-none (slice_index_or rows to.0 None) refl none.0)))
+      (λ none. subst (λ (r : Rows). IsFollowing context code r w' label left) (sym none.1)
+      (subst (λ (v : Waiting). IsFollowing context code rows v label left) (sym none.2) (arrived-none (slice_index_or rows to.0 None) refl none.0)))
       h
 
 -- ---- what is left to do
 
-rank-less : (n : ℕ) (o : Option Row) (arrival : Row) → HasWidth n o → length arrival ≡ n → is_news o arrival ≡ true → rank n (Some (met_with o arrival)) < rank n o
+rank-less : (n : ℕ) (o : Option Row) (arrival : Row) → HasWidth n o → length arrival ≡ n → is_news o arrival ≡ true →
+    rank n (Some (met_with o arrival)) < rank n o
 unfolding rank is_news met_with
 rank-less n None arrival wide width news = omega (arith, count_by-le-length is_known arrival)
 rank-less n (Some row) arrival wide width news = met-fewer row arrival (width ∙ sym wide) (not-true (is_within row arrival) news)
 
-pub arrived-work : (n : ℕ) (rows rows' : Rows) (w w' : Waiting) (to : Label) (arrival : Row) → All (HasWidth n) rows → to.0 < length rows → length arrival ≡ n → HasArrived rows w to arrival rows' w' → work_left n rows' w' ≤ work_left n rows w
+pub arrived-work : (n : ℕ) (rows rows' : Rows) (w w' : Waiting) (to : Label) (arrival : Row) → All (HasWidth n) rows → to.0 < length rows →
+    length arrival ≡ n → HasArrived rows w to arrival rows' w' → work_left n rows' w' ≤ work_left n rows w
 unfolding work_left
 arrived-work n rows rows' w w' to arrival widths within width h = ⊎_elim
     (λ news.

@@ -57,7 +57,8 @@ together-allows n (Known old) (Known facts) regs h h' =
     let k' : Knowledge = told_by facts in
     let agrees = satisfies-agrees old regs h in
     let agrees' = satisfies-agrees facts regs h' in
-    subst (λ (z : Facts). Allows z regs) (sym (cond-false (clash k k' n) Unreached (Known (facts_below (both k k') n)) (agree-clash k k' regs n agrees agrees')))
+    subst (λ (z : Facts). Allows z regs)
+    (sym (cond-false (clash k k' n) Unreached (Known (facts_below (both k k') n)) (agree-clash k k' regs n agrees agrees')))
     (below-satisfied (both k k') n regs (agree-both k k' regs agrees agrees'))
 
 -- ---- those together hold
@@ -83,12 +84,14 @@ unfolding or_else
 first-known None o' v e = absurd (none-some v e)
 first-known (Some w) o' v e = e
 
-told-holds : (k : Knowledge) (n : ℕ) (facts : List Fact) (regs : List ℤ) → AreFactsFine n facts → ((x : Fact) → Contains facts x → k x.reg.0 ≡ Some x.value) → Satisfies (facts_below k n) regs → Satisfies facts regs
+told-holds : (k : Knowledge) (n : ℕ) (facts : List Fact) (regs : List ℤ) → AreFactsFine n facts → ((x : Fact) → Contains facts x → k x.reg.0 ≡ Some x.value) →
+    Satisfies (facts_below k n) regs → Satisfies facts regs
 told-holds k n facts regs fine h satisfied = all-from_contains (λ (x : Fact). register regs x.reg.0 ≡ x.value) facts (λ x c.
     let low : x.reg.0 < n = All-contains (λ (y : Fact). y.reg.0 < n) facts x fine.registers c in
     All-contains (λ (y : Fact). register regs y.reg.0 ≡ y.value) (facts_below k n) (fact x.reg.0 x.value) satisfied (in-below k n x.reg.0 x.value low (h x c)))
 
-both-hold : (n : ℕ) (old facts : List Fact) (regs : List ℤ) → AreFactsFine n old → AreFactsFine n facts → clash (told_by old) (told_by facts) n ≡ false → Satisfies (facts_below (both (told_by old) (told_by facts)) n) regs → Satisfies old regs × Satisfies facts regs
+both-hold : (n : ℕ) (old facts : List Fact) (regs : List ℤ) → AreFactsFine n old → AreFactsFine n facts → clash (told_by old) (told_by facts) n ≡ false →
+    Satisfies (facts_below (both (told_by old) (told_by facts)) n) regs → Satisfies old regs × Satisfies facts regs
 unfolding both
 both-hold n old facts regs fine fine' clear h =
     let k : Knowledge = told_by old in
@@ -99,7 +102,8 @@ both-hold n old facts regs fine fine' clear h =
           second-known (k x.reg.0) (k' x.reg.0) x.value (clash-false k k' n x.reg.0 clear low) (fine-told n facts x fine' c)) h,
     )
 
-pub together-old : (n : ℕ) (old facts : Facts) (regs : List ℤ) → HasFineFacts n old → HasFineFacts n facts → Allows (together n old facts) regs → Allows old regs × Allows facts regs
+pub together-old : (n : ℕ) (old facts : Facts) (regs : List ℤ) → HasFineFacts n old → HasFineFacts n facts → Allows (together n old facts) regs →
+    Allows old regs × Allows facts regs
 unfolding together together_of
 together-old n Unreached facts regs fine fine' h = absurd h
 together-old n (Known old) Unreached regs fine fine' h = absurd h

@@ -1,5 +1,6 @@
 -- Facts and what they tell.
-use Rattle.std.proofs.Common.{◌≡◌, ◌≢◌, ℕ, zero, suc, ◌+◌, ◌<◌, ◌≤◌, List, [], ◌∷◌, ◌++◌, length, map, get_or, Option, Some, None, refl, sym, ap, ap₂, ◌∙◌, subst, ⊎_elim, arith, length-append}
+use Rattle.std.proofs.Common.{◌≡◌, ◌≢◌, ℕ, zero, suc, ◌+◌, ◌<◌, ◌≤◌, List, [], ◌∷◌, ◌++◌, length, map, get_or, Option, Some, None, refl, sym, ap, ap₂, ◌∙◌}
+use Rattle.std.proofs.Common.{subst, ⊎_elim, arith, length-append}
 use Rattle.std.specs.Prelude.{ℤ, All, Contains, ⊤}
 use Rattle.std.specs.List.Sorted.{IsStrictlyIncreasing}
 use Rattle.std.proofs.Math.ListN.{get_or-append, get_or-map}
@@ -71,7 +72,8 @@ unfolding facts_below fact_if
 in-below k zero r v h e = absurd (omega arith)
 in-below k (suc n) r v h e = ⊎_elim
     (λ same.
-    let here : Contains (fact_if n (k n)) (fact r v) = subst (λ o. Contains (fact_if n o) (fact r v)) (sym e ∙ ap k same) (subst (λ m. Contains (fact m v ∷ []) (fact r v)) same (contains-head (fact r v) [])) in
+    let here : Contains (fact_if n (k n)) (fact r v) = subst (λ o. Contains (fact_if n o) (fact r v)) (sym e ∙ ap k same)
+    (subst (λ m. Contains (fact m v ∷ []) (fact r v)) same (contains-head (fact r v) [])) in
     Contains-append_right (facts_below k n) (fact_if n (k n)) (fact r v) here)
     (λ other. Contains-append_left (facts_below k n) (fact_if n (k n)) (fact r v) (in-below k n r v (omega arith) e))
     (cases_eq r n)
@@ -101,7 +103,8 @@ rising-push xs n up below = λ k h.
 below-registers : (k : Knowledge) (n : ℕ) → All (λ x. x.reg.0 < n) (facts_below k n)
 below-registers k n = all-from_contains (λ (x : Fact). x.reg.0 < n) (facts_below k n) (λ x c. (below-in k n x c).0)
 
-rising-slot : (xs : List Fact) (n : ℕ) (o : Option ℤ) → IsStrictlyIncreasing (registers_of xs) → All (λ x. x.reg.0 < n) xs → IsStrictlyIncreasing (registers_of xs ++ registers_of (fact_if n o))
+rising-slot : (xs : List Fact) (n : ℕ) (o : Option ℤ) → IsStrictlyIncreasing (registers_of xs) → All (λ x. x.reg.0 < n) xs →
+    IsStrictlyIncreasing (registers_of xs ++ registers_of (fact_if n o))
 unfolding fact_if
 rising-slot xs n None up below = subst IsStrictlyIncreasing (sym (append-nil (registers_of xs))) up
 rising-slot xs n (Some v) up below = rising-push (registers_of xs) n up (All-map (λ (r : ℕ). r < n) (λ (x : Fact). x.reg.0) xs below)
@@ -109,7 +112,8 @@ rising-slot xs n (Some v) up below = rising-push (registers_of xs) n up (All-map
 below-rises : (k : Knowledge) (n : ℕ) → IsStrictlyIncreasing (registers_of (facts_below k n))
 unfolding facts_below
 below-rises k zero = λ i h. absurd (omega arith)
-below-rises k (suc n) = subst IsStrictlyIncreasing (sym (map-append (λ (x : Fact). x.reg.0) (facts_below k n) (fact_if n (k n)))) (rising-slot (facts_below k n) n (k n) (below-rises k n) (below-registers k n))
+below-rises k (suc n) = subst IsStrictlyIncreasing (sym (map-append (λ (x : Fact). x.reg.0) (facts_below k n) (fact_if n (k n))))
+    (rising-slot (facts_below k n) n (k n) (below-rises k n) (below-registers k n))
 
 pub below-fine : (k : Knowledge) (n : ℕ) → AreFactsFine n (facts_below k n)
 below-fine k n = record { registers = below-registers k n; increasing = below-rises k n }
@@ -124,7 +128,8 @@ rises_from : (facts : List Fact) → AllPairs (λ x y. x < y) (registers_of fact
 rises_from [] rise = tt
 rises_from (x ∷ facts) rise = (
   (λ k d h.
-      let low : x.reg.0 < get_or (registers_of facts) k d.reg.0 = rise 0 (suc k) d.reg.0 (omega arith) (omega (arith, length-map facts (λ (z : Fact). z.reg.0))) in
+      let low : x.reg.0 < get_or (registers_of facts) k d.reg.0 = rise 0 (suc k) d.reg.0 (omega arith)
+      (omega (arith, length-map facts (λ (z : Fact). z.reg.0))) in
       let same = get_or-map (λ (z : Fact). z.reg.0) facts k d in
       omega arith),
   rises_from facts (λ i j d lt h. rise (suc i) (suc j) d (omega arith) (omega arith)),
@@ -135,7 +140,8 @@ one_list [] [] up up' to from = refl
 one_list [] (y ∷ ys) up up' to from = absurd (contains-none y (from y (contains-head y ys)))
 one_list (x ∷ xs) [] up up' to from = absurd (contains-none x (to x (contains-head x xs)))
 one_list (x ∷ xs) (y ∷ ys) up up' to from =
-    ap₂ (λ (z : Fact) (zs : List Fact). z ∷ zs) first (one_list xs ys up.1 up'.1 (λ z c. past z y ys first (after x xs up z c) (to z (contains-tail x z xs c))) (λ z c. past' z c))
+    ap₂ (λ (z : Fact) (zs : List Fact). z ∷ zs) first
+    (one_list xs ys up.1 up'.1 (λ z c. past z y ys first (after x xs up z c) (to z (contains-tail x z xs c))) (λ z c. past' z c))
   where
     after : (w : Fact) (ws : List Fact) → Rises (w ∷ ws) → (z : Fact) → Contains ws z → w.reg.0 < z.reg.0
     after w ws rise z c = All-contains (λ (v : Fact). w.reg.0 < v.reg.0) ws z rise.0 c

@@ -1,5 +1,6 @@
 -- What the search for the strongest facts keeps.
-use Rattle.std.specs.Prelude.{◌≡◌, ℕ, ◌+◌, ◌*◌, ◌<◌, ◌≤◌, ◌⊎◌, ◌&&◌, List, [], ◌∷◌, length, count_by, sum_by, All, Contains, ⊤, Option, Some, None, IfSome, Bool, true, false, not, ℤ, if◌then◌else◌, slice_index_or, slice_set}
+use Rattle.std.specs.Prelude.{◌≡◌, ℕ, ◌+◌, ◌*◌, ◌<◌, ◌≤◌, ◌⊎◌, ◌&&◌, List, [], ◌∷◌, length, count_by, sum_by, All, Contains, ⊤, Option, Some, None, IfSome}
+use Rattle.std.specs.Prelude.{Bool, true, false, not, ℤ, if◌then◌else◌, slice_index_or, slice_set}
 use Rattle.std.specs.Option.{option_map}
 use Rattle.std.specs.Ordering.{int_eq}
 use Rattle.cj_ir.specs.declared.language.Label.{Label}
@@ -106,7 +107,8 @@ pub record IsBegun (context : List Fact) (code : Code) (rows : List (Option (Lis
   pub waiting : AreWaiting code w
 
 -- a search in which the edges from waiting labels are open, and those of one label to these labels
-pub record IsFollowing (context : List Fact) (code : Code) (rows : List (Option (List (Option ℤ)))) (w : Waiting) (label : Label) (left : List Label) : Type 0 where
+pub record IsFollowing (context : List Fact) (code : Code) (rows : List (Option (List (Option ℤ)))) (w : Waiting) (label : Label)
+    (left : List Label) : Type 0 where
   pub found : AreRows context code rows (λ from to. Contains w.list from ⊎ ((from ≡ label) × Contains left to))
   pub waiting : AreWaiting code w
 

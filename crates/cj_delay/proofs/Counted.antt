@@ -1,5 +1,6 @@
 -- The edges of a code, counted in lists.
-use Rattle.std.proofs.Common.{◌≡◌, ℕ, suc, ◌+◌, ◌*◌, ◌<◌, ◌≤◌, Bool, true, false, cond, List, [], ◌∷◌, ◌++◌, length, map, get_or, drop, refl, sym, ap, ap₂, ◌∙◌, arith, append_assoc, append-nil, length-append}
+use Rattle.std.proofs.Common.{◌≡◌, ℕ, suc, ◌+◌, ◌*◌, ◌<◌, ◌≤◌, Bool, true, false, cond, List, [], ◌∷◌, ◌++◌, length, map, get_or, drop, refl, sym, ap, ap₂, ◌∙◌}
+use Rattle.std.proofs.Common.{arith, append_assoc, append-nil, length-append}
 use Rattle.std.specs.Prelude.{count_by, All, nat_eq}
 use Rattle.std.proofs.lemmas.List.{length-map, drop_more}
 use Rattle.std.proofs.Math.ListN.{drop_of_length-le}
@@ -73,11 +74,14 @@ count_into label n [] = refl
 count_into label n (e ∷ edges) =
     by_test (nat_eq e.1.0 label.0) (count_into label (suc n) edges) ∙ sym (count-cons (λ (edge : Label × Label). nat_eq edge.1.0 label.0) e edges)
   where
-    by_test : (b : Bool) → length (edges_into label (suc n) edges) ≡ count_by (λ edge. nat_eq edge.1.0 label.0) edges → length (cond b (record { 0 = n } ∷ edges_into label (suc n) edges) (edges_into label (suc n) edges)) ≡ cond b 1 0 + count_by (λ edge. nat_eq edge.1.0 label.0) edges
+    by_test : (b : Bool) → length (edges_into label (suc n) edges) ≡ count_by (λ edge. nat_eq edge.1.0 label.0) edges →
+        length (cond b (record { 0 = n } ∷ edges_into label (suc n) edges) (edges_into label (suc n) edges))
+        ≡ cond b 1 0 + count_by (λ edge. nat_eq edge.1.0 label.0) edges
     by_test true h = omega arith
     by_test false h = omega arith
 
-count_from : (label from : Label) (nexts : List Label) → count_by (λ (edge : Label × Label). nat_eq edge.1.0 label.0) (map (λ (next : Label). (from, next)) nexts) ≡ count_by (is_label label) nexts
+count_from : (label from : Label) (nexts : List Label) →
+    count_by (λ (edge : Label × Label). nat_eq edge.1.0 label.0) (map (λ (next : Label). (from, next)) nexts) ≡ count_by (is_label label) nexts
 unfolding is_label
 count_from label from [] = refl
 count_from label from (x ∷ nexts) =
@@ -85,7 +89,8 @@ count_from label from (x ∷ nexts) =
     ∙ ap (λ k. cond (nat_eq x.0 label.0) 1 0 + k) (count_from label from nexts)
     ∙ sym (count-cons (λ (y : Label). nat_eq y.0 label.0) x nexts)
 
-count_edges : (label : Label) (n : ℕ) (places : List Place) → count_by (λ (edge : Label × Label). nat_eq edge.1.0 label.0) (edges_of n places) ≡ count_by (is_label label) (all_nexts places)
+count_edges : (label : Label) (n : ℕ) (places : List Place) → count_by (λ (edge : Label × Label). nat_eq edge.1.0 label.0) (edges_of n places)
+    ≡ count_by (is_label label) (all_nexts places)
 unfolding edges_of edges_from all_nexts
 count_edges label n [] = refl
 count_edges label n (p ∷ places) =
@@ -108,7 +113,8 @@ are_counted code lists e =
 
 -- ---- one place after the other
 
-pub edges_more : (places : List Place) (at : ℕ) (p : Place) (so_far new whole : List (Label × Label)) → at < length places → get_or places at p ≡ p → so_far ++ edges_of at (drop at places) ≡ whole → new ≡ so_far ++ edges_from (label_of at) p.instr → new ++ edges_of (at + 1) (drop (at + 1) places) ≡ whole
+pub edges_more : (places : List Place) (at : ℕ) (p : Place) (so_far new whole : List (Label × Label)) → at < length places → get_or places at p ≡ p →
+    so_far ++ edges_of at (drop at places) ≡ whole → new ≡ so_far ++ edges_from (label_of at) p.instr → new ++ edges_of (at + 1) (drop (at + 1) places) ≡ whole
 unfolding edges_of
 edges_more places at p so_far new whole h is before more =
     let split : drop at places ≡ p ∷ drop (at + 1) places = drop_more places at p h ∙ ap (λ (x : Place). x ∷ drop (at + 1) places) is in
@@ -118,6 +124,7 @@ edges_more places at p so_far new whole h is before more =
     ∙ ap (λ k. so_far ++ (edges_from (label_of at) p.instr ++ edges_of k (drop (at + 1) places))) number
     ∙ ap (λ (ps : List Place). so_far ++ edges_of at ps) (sym split) ∙ before
 
-pub edges_end : (places : List Place) (at : ℕ) (so_far whole : List (Label × Label)) → length places ≤ at → so_far ++ edges_of at (drop at places) ≡ whole → so_far ≡ whole
+pub edges_end : (places : List Place) (at : ℕ) (so_far whole : List (Label × Label)) → length places ≤ at → so_far ++ edges_of at (drop at places) ≡ whole →
+    so_far ≡ whole
 unfolding edges_of
 edges_end places at so_far whole h e = sym (append-nil so_far) ∙ ap (λ (ps : List Place). so_far ++ edges_of at ps) (sym (drop_of_length-le places h)) ∙ e

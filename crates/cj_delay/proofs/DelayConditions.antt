@@ -1,5 +1,6 @@
 -- What holds where no condition is against an Assume at the end of a path.
-use Rattle.std.proofs.Common.{◌≡◌, ◌≢◌, ℕ, zero, suc, ◌+◌, ◌-◌, ◌<◌, ◌≤◌, Bool, true, false, not, nat_lt, nat_le, nat_eq, List, length, get_or, take, Option, Some, None, refl, sym, ap, ◌∙◌, subst, arith}
+use Rattle.std.proofs.Common.{◌≡◌, ◌≢◌, ℕ, zero, suc, ◌+◌, ◌-◌, ◌<◌, ◌≤◌, Bool, true, false, not, nat_lt, nat_le, nat_eq, List, length, get_or, take, Option}
+use Rattle.std.proofs.Common.{Some, None, refl, sym, ap, ◌∙◌, subst, arith}
 use Rattle.std.specs.Prelude.{All}
 use Rattle.std.specs.List.{list_any}
 use Rattle.std.proofs.lemmas.Option.{none-some, slice_get_within}
@@ -21,7 +22,8 @@ use Rattle.cj_draft.specs.WellNamed.{IsGuardWithin}
 use Rattle.cj_rows.specs.Rows.{fresh_row}
 use Rattle.cj_rows.proofs.Room.{has_room}
 use Rattle.cj_rows.specs.Guards.{if_missing}
-use Rattle.cj_delay.specs.DelayedAssume.{all_nexts, is_label, edges_into, passed_in, on_path, is_edge, joined_offence, silent_offence, step_offence, steps_offence, turns_back, long_offence, end_offence, anchor_number, offence_from, offence_on, delay_offence}
+use Rattle.cj_delay.specs.DelayedAssume.{all_nexts, is_label, edges_into, passed_in, on_path, is_edge, joined_offence, silent_offence, step_offence}
+use Rattle.cj_delay.specs.DelayedAssume.{steps_offence, turns_back, long_offence, end_offence, anchor_number, offence_from, offence_on, delay_offence}
 use Rattle.cj_delay.specs.CountedEdges.{AreNextsWithin}
 use Rattle.cj_delay.specs.DelaySteps.{IsPathIn, BeginsPath}
 use Rattle.cj_rows.proofs.GuardConditions.{no_offence, guards_within, few_guards}
@@ -34,14 +36,16 @@ missing_none false skipped e = absurd (none-some skipped (sym e))
 
 -- ---- steps
 
-steps_none : (P : Program) (code : Code) (path : List Label) (n at k : ℕ) → steps_offence P code path n at ≡ None → at ≤ k → k < at + n → step_offence P code path k ≡ None
+steps_none : (P : Program) (code : Code) (path : List Label) (n at k : ℕ) → steps_offence P code path n at ≡ None → at ≤ k → k < at + n →
+    step_offence P code path k ≡ None
 unfolding steps_offence
 steps_none P code path zero at k e h lt = absurd (omega arith)
 steps_none P code path (suc n) at k e h lt =
     let parts = no_offence (step_offence P code path at) (steps_offence P code path n (suc at)) e in
     by_test (nat_eq k at) refl parts.0 (λ more. steps_none P code path n (suc at) k parts.1 more (omega arith))
   where
-    by_test : (b : Bool) → nat_eq k at ≡ b → step_offence P code path at ≡ None → (suc at ≤ k → step_offence P code path k ≡ None) → step_offence P code path k ≡ None
+    by_test : (b : Bool) → nat_eq k at ≡ b → step_offence P code path at ≡ None → (suc at ≤ k → step_offence P code path k ≡ None) →
+        step_offence P code path k ≡ None
     by_test true is here later = let same : at ≡ k = sym (eqb-true k at is) in subst (λ j. step_offence P code path j ≡ None) same here
     by_test false is here later =
         let ne : k ≡ at → ⊥ = λ e. let t : false ≡ true = sym is ∙ eq-eqb k at e in absurd (cc) in
@@ -54,7 +58,8 @@ pub record IsStep (P : Program) (code : Code) (path : List Label) (at : ℕ) : T
   pub one : edges_into code (on_path path at) ≡ 1
   pub passed : suc at ≢ length path → passed_in P (place_at code (on_path path at)) ≡ true
 
-earlier : (path : List Label) (at j : ℕ) → at ≤ length path → j < at → on_path path j ≡ on_path path at → list_any (is_label (on_path path at)) (take at path) ≡ true
+earlier : (path : List Label) (at j : ℕ) → at ≤ length path → j < at → on_path path j ≡ on_path path at → list_any (is_label (on_path path at)) (take at path)
+    ≡ true
 unfolding is_label on_path
 earlier path at j h lt e =
     let none : Label = record { 0 = 0 } in
@@ -63,7 +68,8 @@ earlier path at j h lt e =
     list_any_at (is_label (get_or path at none)) (take at path) j none size
     (eq-eqb (get_or (take at path) j none).0 (get_or path at none).0 (ap (λ (l : Label). l.0) read))
 
-silent_none : (P : Program) (code : Code) (label : Label) (b : Bool) → b ≡ false → silent_offence P code label b ≡ None → passed_in P (place_at code label) ≡ true
+silent_none : (P : Program) (code : Code) (label : Label) (b : Bool) → b ≡ false → silent_offence P code label b ≡ None →
+    passed_in P (place_at code label) ≡ true
 unfolding silent_offence
 silent_none P code label true is e = let f : true ≡ false = is in absurd (cc)
 silent_none P code label false is e = missing_none (passed_in P (place_at code label)) _ e
@@ -108,7 +114,8 @@ can_delay P code path gs none =
     other : offence_from P code path gs None ≡ None → CanDelay P code path gs
     other e = absurd (none-some (NotAnchor (on_path path 0)) (sym e))
 
-    by_instr : 1 < length path → (p : Place) → place_at code (on_path path 0) ≡ Some p → (i : VInstr) → p.instr ≡ i → offence_from P code path gs (anchor_number i) ≡ None → CanDelay P code path gs
+    by_instr : 1 < length path → (p : Place) → place_at code (on_path path 0) ≡ Some p → (i : VInstr) → p.instr ≡ i →
+        offence_from P code path gs (anchor_number i) ≡ None → CanDelay P code path gs
     by_instr long p at (Anchor b t n) is e =
         let steps = no_offence _ _ e in
         let back = no_offence _ _ steps.1 in
@@ -141,7 +148,8 @@ can_delay P code path gs none =
     by_place long None at e = absurd (none-some (NoPlace (on_path path 0)) (sym e))
     by_place long (Some p) at e = by_instr long p at p.instr refl e
 
-pub path_in : (P : Program) (code : Code) (path : List Label) (guards : List Guard) → AreNextsWithin code.places → CanDelay P code path guards → IsPathIn code path
+pub path_in : (P : Program) (code : Code) (path : List Label) (guards : List Guard) → AreNextsWithin code.places → CanDelay P code path guards →
+    IsPathIn code path
 path_in P code path gs closed can = record {
   long = can.long;
   within = λ at h. by_number at h;

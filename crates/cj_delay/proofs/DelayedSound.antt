@@ -1,5 +1,6 @@
 -- An Assume at the end of a path keeps that a code is sound.
-use Rattle.std.proofs.Common.{◌≡◌, ◌≢◌, ℕ, zero, suc, ◌+◌, ◌-◌, ◌<◌, ◌≤◌, ◌⊎◌, Bool, true, false, cond, List, [], ◌∷◌, ◌++◌, length, Option, Some, None, refl, sym, ap, ◌∙◌, subst, inl, inr, ⊎_elim, arith, length-append, length-set}
+use Rattle.std.proofs.Common.{◌≡◌, ◌≢◌, ℕ, zero, suc, ◌+◌, ◌-◌, ◌<◌, ◌≤◌, ◌⊎◌, Bool, true, false, cond, List, [], ◌∷◌, ◌++◌, length, Option, Some, None, refl}
+use Rattle.std.proofs.Common.{sym, ap, ◌∙◌, subst, inl, inr, ⊎_elim, arith, length-append, length-set}
 use Rattle.std.specs.Prelude.{ℤ, slice_get, slice_set, Contains, All}
 use Rattle.std.specs.Option.{option_map}
 use Rattle.std.proofs.lemmas.Option.{same_Some, none-some, slice_get_within, slice_get_past}
@@ -42,7 +43,8 @@ use Rattle.cj_rows.proofs.ListReads.{get-set_same, get-set_other, get-append_lef
 use Rattle.cj_rows.proofs.RowLemmas.{has_guard, guard_place}
 use Rattle.cj_rows.proofs.InsertedRows.{HasGuardsOf, rows_through}
 use Rattle.cj_rows.specs.Places.{with_instr}
-use Rattle.cj_delay.specs.DelayedAssume.{is_silent, base_in, base_at, is_turn, turn_in, passed_in, is_passed, on_path, turn_at, turns_before, turns_back, path_pair, with_backs, led_edge, fresh_place, delayed, IsDelayed}
+use Rattle.cj_delay.specs.DelayedAssume.{is_silent, base_in, base_at, is_turn, turn_in, passed_in, is_passed, on_path, turn_at, turns_before, turns_back}
+use Rattle.cj_delay.specs.DelayedAssume.{path_pair, with_backs, led_edge, fresh_place, delayed, IsDelayed}
 use Rattle.cj_delay.specs.CountedEdges.{AreNextsWithin}
 use Rattle.cj_delay.specs.DelaySteps.{IsPathIn}
 use Rattle.cj_delay.proofs.DelayConditions.{CanDelay, IsStep, path_in}
@@ -86,7 +88,8 @@ turns_most code path i j h le k =
     omega (arith, turns_grow code path i (j - i) h (omega arith), ap (turns_before code path) e)
 
 -- a label is one of those between the ends, or none
-pub find : (path : List Label) (x : Label) (n : ℕ) → ((at : ℕ) × (0 < at) × (at < n) × (on_path path at ≡ x)) ⊎ ((at : ℕ) → 0 < at → at < n → on_path path at ≢ x)
+pub find : (path : List Label) (x : Label) (n : ℕ) → ((at : ℕ) × (0 < at) × (at < n) × (on_path path at ≡ x))
+    ⊎ ((at : ℕ) → 0 < at → at < n → on_path path at ≢ x)
 find path x zero = inr (λ at some h e. absurd (omega arith))
 find path x (suc n) = ⊎_elim
     (λ has. inl (has.0, has.1, omega (arith, has.2), has.3))
@@ -109,7 +112,8 @@ pub record Delay (P : Program) (code : Code) (path : List Label) (gs : List Guar
   pub can : CanDelay P code path gs
   pub is : IsDelayed code path gs made
 
-module _ (P : Program) (context : List Fact) (f : FunId) (code : Code) (path : List Label) (gs : List Guard) (made : Code) (d : Delay P code path gs made) (sound : Sound P context f code) where
+module _ (P : Program) (context : List Fact) (f : FunId) (code : Code) (path : List Label) (gs : List Guard) (made : Code) (d : Delay P code path gs made)
+    (sound : Sound P context f code) where
   abbrev e : Label
   e = on_path path (length path - 1)
 
@@ -128,7 +132,8 @@ module _ (P : Program) (context : List Fact) (f : FunId) (code : Code) (path : L
   -- the pairs that are added: each label of the path from the second on gets its own, and the last one's stands at the
   -- fresh label
   pub New : Label → Back → Type 0
-  New x q = (at : ℕ) × (0 < at) × (at < length path) × (x ≡ led_to (on_path path (length path - 1)) (fresh_label code) (on_path path at)) × (q ≡ path_pair code path d.is.target d.is.number at)
+  New x q = (at : ℕ) × (0 < at) × (at < length path) × (x ≡ led_to (on_path path (length path - 1)) (fresh_label code) (on_path path at))
+      × (q ≡ path_pair code path d.is.target d.is.number at)
 
   abbrev fresh : Place
   fresh = fresh_place (Assume gs (turns_back code path d.is.number) d.is.target (on_path path (length path - 1))) d.is.last d.is.backs
@@ -244,14 +249,16 @@ module _ (P : Program) (context : List Fact) (f : FunId) (code : Code) (path : L
   -- only the label before the last one goes on to that
   goes_to_e : (x : Label) (p : Place) → place_at code x ≡ Some p → Contains (successors p.instr) e → x ≡ before
   goes_to_e x p at c =
-      same_label x before (only_edge code e x (on_path path (length path - 1 - 1)) p last_step.edge.place last_step.one at last_step.edge.at c last_step.edge.goes
+      same_label x before (only_edge code e x (on_path path (length path - 1 - 1)) p last_step.edge.place last_step.one at last_step.edge.at c
+      last_step.edge.goes
       ∙ ap (λ (y : Label). y.0) end_before)
 
   stays : (x : Label) (p : Place) → x ≢ before → place_at code x ≡ Some p → relabel r p.instr ≡ p.instr
   stays x p ne at = relabel_none r p.instr (λ y c. led-other e s y (λ is. ne (goes_to_e x p at (subst (Contains (successors p.instr)) is c))))
 
   -- the place before the last one is the Anchor's, or passes
-  kind_at : (k : ℕ) (p : Place) → suc k < length path → place_at code (on_path path k) ≡ Some p → ((k ≡ 0) × (p.instr ≡ Anchor d.is.number d.is.target d.is.next)) ⊎ ((0 < k) × (is_passed P p.point p.instr ≡ true))
+  kind_at : (k : ℕ) (p : Place) → suc k < length path → place_at code (on_path path k) ≡ Some p →
+      ((k ≡ 0) × (p.instr ≡ Anchor d.is.number d.is.target d.is.next)) ⊎ ((0 < k) × (is_passed P p.point p.instr ≡ true))
   unfolding passed_in
   kind_at zero p within at = inl (refl, ap (λ (q : Place). q.instr) (same_Some p d.is.anchor (sym at ∙ d.is.at_first)) ∙ d.is.is_anchor)
   kind_at (suc k) p within at =
@@ -277,7 +284,8 @@ module _ (P : Program) (context : List Fact) (f : FunId) (code : Code) (path : L
 
   fresh_at : place_at code' s ≡ Some fresh
   unfolding delayed fresh_label
-  fresh_at = subst (λ k. slice_get (slice_set d.is.places before.0 led ++ fresh ∷ []) k ≡ Some fresh) length-marked (get-append_end (slice_set d.is.places before.0 led) fresh)
+  fresh_at = subst (λ k. slice_get (slice_set d.is.places before.0 led ++ fresh ∷ []) k ≡ Some fresh) length-marked
+      (get-append_end (slice_set d.is.places before.0 led) fresh)
 
   -- a place of the old code, as the new one has it
   pub record Now (x : Label) (p : Place) : Type 0 where
@@ -295,10 +303,12 @@ module _ (P : Program) (context : List Fact) (f : FunId) (code : Code) (path : L
       (λ (here : x ≡ before).
       let same : w.place ≡ d.is.from = same_Some w.place d.is.from (sym w.at ∙ ap (λ (y : Label). slice_get places y.0) here ∙ d.is.at_from) in
       let within : before.0 < length places = slice_get_within places before.0 d.is.from d.is.at_from in
-      let instr : led_edge e s d.is.from.instr ≡ relabel r p.instr = ap (led_edge e s) (ap (λ (q : Place). q.instr) (sym same) ∙ w.instr) ∙ led_before p (ap (place_at code) (sym here) ∙ at) in
+      let instr : led_edge e s d.is.from.instr ≡ relabel r p.instr = ap (led_edge e s) (ap (λ (q : Place). q.instr) (sym same) ∙ w.instr)
+      ∙ led_before p (ap (place_at code) (sym here) ∙ at) in
       record {
         place = led;
-        at = get-append_left (slice_set places before.0 led) (fresh ∷ []) x.0 led (ap (λ (y : Label). slice_get (slice_set places before.0 led) y.0) here ∙ get-set_same places before.0 led within);
+        at = get-append_left (slice_set places before.0 led) (fresh ∷ []) x.0 led (ap (λ (y : Label). slice_get (slice_set places before.0 led) y.0) here
+            ∙ get-set_same places before.0 led within);
         kept = record {
           instr = instr;
           point = sym w.point ∙ ap (λ (q : Place). q.point) same;
@@ -310,7 +320,8 @@ module _ (P : Program) (context : List Fact) (f : FunId) (code : Code) (path : L
       })
       (λ ne. record {
         place = w.place;
-        at = get-append_left (slice_set places before.0 led) (fresh ∷ []) x.0 w.place (get-set_other places before.0 x.0 led (λ is. ne (same_label x before is)) ∙ w.at);
+        at = get-append_left (slice_set places before.0 led) (fresh ∷ []) x.0 w.place
+            (get-set_other places before.0 x.0 led (λ is. ne (same_label x before is)) ∙ w.at);
         kept = record {
           instr = w.instr ∙ sym (stays x p ne at);
           point = sym w.point;
@@ -335,7 +346,8 @@ module _ (P : Program) (context : List Fact) (f : FunId) (code : Code) (path : L
       (label_cases x s)
 
   entry_stays : r code.entry ≡ code.entry
-  entry_stays = led-other e s code.entry (entry_other code e (on_path path (length path - 1 - 1)) last_step.edge.place last_step.one last_step.edge.at last_step.edge.goes)
+  entry_stays = led-other e s code.entry
+      (entry_other code e (on_path path (length path - 1 - 1)) last_step.edge.place last_step.one last_step.edge.at last_step.edge.goes)
 
   pub inserted : IsInserted code code' e s r New
   unfolding New delayed fresh_place turns_back path_pair
@@ -371,7 +383,8 @@ module _ (P : Program) (context : List Fact) (f : FunId) (code : Code) (path : L
   -- ---- numbers
 
   anchor_is : Anchor d.can.begins.number d.can.begins.target d.can.begins.next ≡ Anchor d.is.number d.is.target d.is.next
-  anchor_is = sym d.can.begins.instr ∙ ap (λ (q : Place). q.instr) (same_Some d.can.begins.place d.is.anchor (sym d.can.begins.at ∙ d.is.at_first)) ∙ d.is.is_anchor
+  anchor_is = sym d.can.begins.instr ∙ ap (λ (q : Place). q.instr) (same_Some d.can.begins.place d.is.anchor (sym d.can.begins.at ∙ d.is.at_first))
+      ∙ d.is.is_anchor
 
   short : turns_back code path d.is.number ≤ 4
   short =
@@ -382,7 +395,8 @@ module _ (P : Program) (context : List Fact) (f : FunId) (code : Code) (path : L
 
   target_fine : IsPointFine P code.regs d.is.target
   target_fine =
-      let fine = subst (IsVInstrFine P code.regs (length code.places)) d.is.is_anchor (fine_of P code sound.named (on_path path 0) d.is.anchor d.is.at_first).instr in
+      let fine = subst (IsVInstrFine P code.regs (length code.places)) d.is.is_anchor
+      (fine_of P code sound.named (on_path path 0) d.is.anchor d.is.at_first).instr in
       fine.1
 
   pair_fine : (at : ℕ) → 0 < at → at < length path → IsBackFine P code.regs (pair at)
@@ -410,7 +424,8 @@ module _ (P : Program) (context : List Fact) (f : FunId) (code : Code) (path : L
       let fine = fine_of P code sound.named x p at in
       record {
         instr = subst (IsVInstrFine P code.regs (length code'.places)) (sym k.instr)
-            (relabel_fine P code.regs (length code.places) r (length code'.places) p.instr (λ y c. led_within y (next_within code x p y closed at c)) fine.instr);
+            (relabel_fine P code.regs (length code.places) r (length code'.places) p.instr (λ y c. led_within y (next_within code x p y closed at c))
+            fine.instr);
         point = subst (IsPointFine P code.regs) k.point fine.point;
         facts = subst (HasFineFacts code.regs) k.facts fine.facts;
         backs = backs_fine x p p' k fine.backs;
@@ -509,13 +524,15 @@ module _ (P : Program) (context : List Fact) (f : FunId) (code : Code) (path : L
       let on = on_path path number in
       let is : next ≡ on = r_same next on (next_within code x p next closed at c) (in_code.within number new.2) new.3 in
       let same : x ≡ on_path path (number - 1) = same_label x (on_path path (number - 1))
-      (only_edge code on x (on_path path (number - 1)) p step.edge.place step.one at step.edge.at (subst (Contains (successors p.instr)) is c) step.edge.goes) in
+      (only_edge code on x (on_path path (number - 1)) p step.edge.place step.one at step.edge.at (subst (Contains (successors p.instr)) is c) step.edge.goes)
+      in
       let some : 0 < number = new.1 in
       let inside : number < length path = new.2 in
       let later : number ≡ suc (number - 1) = omega arith in
       record { k = number - 1; here = same; within = omega arith; is = new.4 ∙ ap pair later }
 
-  own_has : (x : Label) (p p' : Place) (k : ℕ) → place_at code x ≡ Some p → place_at code' x ≡ Some p' → 0 < k → suc k < length path → x ≡ on_path path k → Contains p'.backs (pair k)
+  own_has : (x : Label) (p p' : Place) (k : ℕ) → place_at code x ≡ Some p → place_at code' x ≡ Some p' → 0 < k → suc k < length path → x ≡ on_path path k →
+      Contains p'.backs (pair k)
   own_has x p p' k at at' some within is =
       let now = now_at x p at in
       subst (λ (y : Place). Contains y.backs (pair k)) (same_Some now.place p' (sym now.at ∙ at')) (now.has k some (omega arith) is)
@@ -524,14 +541,17 @@ module _ (P : Program) (context : List Fact) (f : FunId) (code : Code) (path : L
   unfolding turn_at turn_in
   turn_here x p k at is = ap (λ (y : Label). turn_in (place_at code y)) (sym is) ∙ ap turn_in at
 
-  turns_step : (x : Label) (p : Place) (k : ℕ) (b : Bool) → place_at code x ≡ Some p → x ≡ on_path path k → is_turn p.instr ≡ b → 0 < k → k < length path → turns_before code path (suc k) ≡ turns_before code path k + cond b 1 0
+  turns_step : (x : Label) (p : Place) (k : ℕ) (b : Bool) → place_at code x ≡ Some p → x ≡ on_path path k → is_turn p.instr ≡ b → 0 < k → k < length path →
+      turns_before code path (suc k) ≡ turns_before code path k + cond b 1 0
   turns_step x p k b at is turn some within =
       let later : suc k ≡ k + 1 = omega arith in
       ap (turns_before code path) later ∙ turns_more code path k some within
       ∙ ap (λ (t : Bool). turns_before code path k + cond t 1 0) (turn_here x p k at is ∙ turn)
 
   -- an Assume or Anchor has the pair that comes along its edge
-  guarded_pair : (x : Label) (p p' : Place) (q : Back) → place_at code x ≡ Some p → place_at code' x ≡ Some p' → IsKept r (New x) p p' → is_turn p.instr ≡ false → FromPath x q → (p.instr ≡ Anchor d.is.number d.is.target d.is.next → Contains p.backs (pair_of d.is.number d.is.target)) → Contains p'.backs q
+  guarded_pair : (x : Label) (p p' : Place) (q : Back) → place_at code x ≡ Some p → place_at code' x ≡ Some p' → IsKept r (New x) p p' →
+      is_turn p.instr ≡ false → FromPath x q → (p.instr ≡ Anchor d.is.number d.is.target d.is.next → Contains p.backs (pair_of d.is.number d.is.target)) →
+      Contains p'.backs q
   unfolding path_pair
   guarded_pair x p p' q at at' kept turn from own = ⊎_elim
       (λ first.
@@ -563,7 +583,9 @@ module _ (P : Program) (context : List Fact) (f : FunId) (code : Code) (path : L
   frames_instr (top ∷ others) regs h = refl
 
   -- a Nop or Cond carries the pair over its turn
-  carried : (x : Label) (p p' : Place) (q : Back) (regs : List ℤ) → place_at code x ≡ Some p → place_at code' x ≡ Some p' → IsKept r (New x) p p' → is_turn p.instr ≡ true → IsSilentIn p.instr → (p.instr ≡ Anchor d.is.number d.is.target d.is.next → ⊥) → (is_passed P p.point p.instr ≡ true → is_silent (base_at P p.point) ≡ true) → FromPath x q → IsCarried P p' regs q
+  carried : (x : Label) (p p' : Place) (q : Back) (regs : List ℤ) → place_at code x ≡ Some p → place_at code' x ≡ Some p' → IsKept r (New x) p p' →
+      is_turn p.instr ≡ true → IsSilentIn p.instr → (p.instr ≡ Anchor d.is.number d.is.target d.is.next → ⊥) →
+      (is_passed P p.point p.instr ≡ true → is_silent (base_at P p.point) ≡ true) → FromPath x q → IsCarried P p' regs q
   unfolding path_pair base_at frames_of
   carried x p p' q regs at at' kept turn silent no_anchor quiet from = ⊎_elim
       (λ first. absurd (no_anchor first.1))
@@ -573,10 +595,12 @@ module _ (P : Program) (context : List Fact) (f : FunId) (code : Code) (path : L
       let base = silent_is (base_in P p.point.frames) (quiet later.1) in
       record {
         instr = subst IsSilentIn (sym kept.instr) (silent-relabel r p.instr silent);
-        base = subst (λ (point : Point). IsSilent (instr_of P (stack_of P point.frames regs))) kept.point (subst IsSilent (sym (frames_instr p.point.frames regs some)) base);
+        base = subst (λ (point : Point). IsSilent (instr_of P (stack_of P point.frames regs))) kept.point
+            (subst IsSilent (sym (frames_instr p.point.frames regs some)) base);
         before = d.is.number + turns_before code path from.k;
         turns = ap (λ (b : Back). b.turns) from.is ∙ omega (arith, step);
-        carried = subst (Contains p'.backs) (ap (λ (b : Back). pair_of (d.is.number + turns_before code path from.k) b.point) (sym from.is)) (own_has x p p' from.k at at' later.0 from.within from.here);
+        carried = subst (Contains p'.backs) (ap (λ (b : Back). pair_of (d.is.number + turns_before code path from.k) b.point) (sym from.is))
+            (own_has x p p' from.k at at' later.0 from.within from.here);
       })
       (kind_at from.k p from.within (ap (place_at code) (sym from.here) ∙ at))
 
@@ -588,7 +612,8 @@ module _ (P : Program) (context : List Fact) (f : FunId) (code : Code) (path : L
       (λ later. let f : true ≡ false = sym later.1 ∙ not_passed in cc)
       (kind_at from.k p from.within (ap (place_at code) (sym from.here) ∙ at))
 
-  value_new : (p' : Place) (regs : List ℤ) (o : Option ℤ) (fault : Fault) (go : ℤ → Effect) → ((v : ℤ) → NewOn P code r New p' regs (Plain (go v))) → NewOn P code r New p' regs (Plain (with_value o fault go))
+  value_new : (p' : Place) (regs : List ℤ) (o : Option ℤ) (fault : Fault) (go : ℤ → Effect) → ((v : ℤ) → NewOn P code r New p' regs (Plain (go v))) →
+      NewOn P code r New p' regs (Plain (with_value o fault go))
   unfolding with_value
   value_new p' regs None fault go h = tt
   value_new p' regs (Some v) fault go h = h v
@@ -602,21 +627,34 @@ module _ (P : Program) (context : List Fact) (f : FunId) (code : Code) (path : L
 
     new_on : (i : VInstr) → p.instr ≡ i → SoundEffect P code p regs m (version_effect i regs m) → NewOn P code r New p' regs (version_effect i regs m)
     unfolding version_effect op_effect load_effect store_effect successors is_passed is_turn IsSilentIn
-    new_on (Nop next) is s = λ st a q new. inr (carried x p p' q regs at at' kept (ap is_turn is) (subst IsSilentIn (sym is) tt) (λ h. let f : Nop next ≡ Anchor d.is.number d.is.target d.is.next = sym is ∙ h in cc) (λ h. ap (is_passed P p.point) (sym is) ∙ h) (comes (Nop next) next q is (contains-head next []) new))
-    new_on (Cond t a b) is s = λ st arr q new. inr (carried x p p' q regs at at' kept (ap is_turn is) (subst IsSilentIn (sym is) tt) (λ h. let f : Cond t a b ≡ Anchor d.is.number d.is.target d.is.next = sym is ∙ h in cc) (λ h. ap (is_passed P p.point) (sym is) ∙ h) (comes (Cond t a b) (branch (operand_value regs t) a b) q is (branch_among (operand_value regs t) a b) new))
-    new_on (Assume g b t next) is s = λ h st a q new. inr (guarded_pair x p p' q at at' kept (ap is_turn is) (comes (Assume g b t next) next q is (contains-head next []) new) (λ h. let f : Assume g b t next ≡ Anchor d.is.number d.is.target d.is.next = sym is ∙ h in absurd (cc)))
-    new_on (Anchor b t next) is s = λ h st a q new. inr (guarded_pair x p p' q at at' kept (ap is_turn is) (comes (Anchor b t next) next q is (contains-head next []) new) (λ h.
+    new_on (Nop next) is s = λ st a q new. inr
+        (carried x p p' q regs at at' kept (ap is_turn is) (subst IsSilentIn (sym is) tt)
+        (λ h. let f : Nop next ≡ Anchor d.is.number d.is.target d.is.next = sym is ∙ h in cc) (λ h. ap (is_passed P p.point) (sym is) ∙ h)
+        (comes (Nop next) next q is (contains-head next []) new))
+    new_on (Cond t a b) is s = λ st arr q new. inr
+        (carried x p p' q regs at at' kept (ap is_turn is) (subst IsSilentIn (sym is) tt) (λ h. let f : Cond t a b
+        ≡ Anchor d.is.number d.is.target d.is.next = sym is ∙ h in cc) (λ h. ap (is_passed P p.point) (sym is) ∙ h)
+        (comes (Cond t a b) (branch (operand_value regs t) a b) q is (branch_among (operand_value regs t) a b) new))
+    new_on (Assume g b t next) is s = λ h st a q new. inr
+        (guarded_pair x p p' q at at' kept (ap is_turn is) (comes (Assume g b t next) next q is (contains-head next []) new) (λ h. let f : Assume g b t next
+        ≡ Anchor d.is.number d.is.target d.is.next = sym is ∙ h in absurd (cc)))
+    new_on (Anchor b t next) is s = λ h st a q new. inr
+        (guarded_pair x p p' q at at' kept (ap is_turn is) (comes (Anchor b t next) next q is (contains-head next []) new) (λ h.
         let same : Anchor b t next ≡ Anchor d.is.number d.is.target d.is.next = sym is ∙ h in
         let number : b ≡ d.is.number = cc in
         let target : t ≡ d.is.target = cc in
         subst (λ (y : Point). Contains p.backs (pair_of d.is.number y)) target (subst (λ k. Contains p.backs (pair_of k t)) number s.target_in)))
-    new_on (Op dest expr next) is s = value_new p' regs (expr_value regs expr) ZeroDivisor (λ v. On next (slice_set regs dest.0 v) m []) (λ v st a q new. lost (Op dest expr next) next q is refl (contains-head next []) new)
+    new_on (Op dest expr next) is s = value_new p' regs (expr_value regs expr) ZeroDivisor (λ v. On next (slice_set regs dest.0 v) m [])
+        (λ v st a q new. lost (Op dest expr next) next q is refl (contains-head next []) new)
     new_on (Move pairs next) is s = λ st a q new. lost (Move pairs next) next q is refl (contains-head next []) new
     new_on (Call dest g args next) is s = λ v st a q new. lost (Call dest g args next) next q is refl (contains-head next []) new
     new_on (Return value) is s = tt
     new_on (Print value next) is s = λ st a q new. lost (Print value next) next q is refl (contains-head next []) new
-    new_on (Load dest address next) is s = value_new p' regs (cell m (operand_value regs address)) (BadAddress (operand_value regs address)) (λ v. On next (slice_set regs dest.0 v) m []) (λ v st a q new. lost (Load dest address next) next q is refl (contains-head next []) new)
-    new_on (Store address value next) is s = value_new p' regs (cell m (operand_value regs address)) (BadAddress (operand_value regs address)) (λ w. On next regs (with_cell m (operand_value regs address) (operand_value regs value)) []) (λ w st a q new. lost (Store address value next) next q is refl (contains-head next []) new)
+    new_on (Load dest address next) is s = value_new p' regs (cell m (operand_value regs address)) (BadAddress (operand_value regs address))
+        (λ v. On next (slice_set regs dest.0 v) m []) (λ v st a q new. lost (Load dest address next) next q is refl (contains-head next []) new)
+    new_on (Store address value next) is s = value_new p' regs (cell m (operand_value regs address)) (BadAddress (operand_value regs address))
+        (λ w. On next regs (with_cell m (operand_value regs address) (operand_value regs value)) [])
+        (λ w st a q new. lost (Store address value next) next q is refl (contains-head next []) new)
     new_on (Fail g l) is s = tt
 
   first_own : (regs : List ℤ) (st : Stack) (a : Arrives P code code.entry regs st) (q : Back) → New (r code.entry) q → IsOwn P a.place regs q

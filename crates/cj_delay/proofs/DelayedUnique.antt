@@ -20,7 +20,8 @@ use Rattle.cj_rows.proofs.WithPairs.{with_alike}
 use Rattle.cj_delay.proofs.DelayedSound.{find}
 
 -- what stands at a label of marked places
-marked_alike : (code : Code) (path : List Label) (target : Point) (number upto : ℕ) (one other : List Place) → AreMarked code path target number upto one → AreMarked code path target number upto other → (i : ℕ) (p : Place) → slice_get one i ≡ Some p → slice_get other i ≡ Some p
+marked_alike : (code : Code) (path : List Label) (target : Point) (number upto : ℕ) (one other : List Place) → AreMarked code path target number upto one →
+    AreMarked code path target number upto other → (i : ℕ) (p : Place) → slice_get one i ≡ Some p → slice_get other i ≡ Some p
 marked_alike code path target number upto one other a b i p at = ⊎_elim
     (λ found.
     let k = found.0 in
@@ -51,13 +52,17 @@ delayed_alike code path gs one other a b =
     let instr : Anchor a.number a.target a.next ≡ Anchor b.number b.target b.next = sym a.is_anchor ∙ ap (λ (p : Place). p.instr) anchors ∙ b.is_anchor in
     let number : a.number ≡ b.number = cc in
     let target : a.target ≡ b.target = cc in
-    let marked = subst (λ (t : Point). AreMarked code path t b.number (length path - 1) a.places) target (subst (λ k. AreMarked code path a.target k (length path - 1) a.places) number a.are_marked) in
-    let places : a.places ≡ b.places = lists_alike a.places b.places (a.are_marked.count ∙ sym b.are_marked.count) (marked_alike code path b.target b.number (length path - 1) a.places b.places marked b.are_marked) in
+    let marked = subst (λ (t : Point). AreMarked code path t b.number (length path - 1) a.places) target
+    (subst (λ k. AreMarked code path a.target k (length path - 1) a.places) number a.are_marked) in
+    let places : a.places
+    ≡ b.places = lists_alike a.places b.places (a.are_marked.count ∙ sym b.are_marked.count)
+    (marked_alike code path b.target b.number (length path - 1) a.places b.places marked b.are_marked) in
     let from : a.from ≡ b.from = same_Some a.from b.from (sym a.at_from ∙ ap (λ (ps : List Place). slice_get ps before.0) places ∙ b.at_from) in
     let lasts : a.last ≡ b.last = same_Some a.last b.last (sym a.at_last ∙ b.at_last) in
     let pair : path_pair code path a.target a.number (length path - 1) ≡ path_pair code path b.target b.number (length path - 1) =
     ap (λ (t : Point). path_pair code path t a.number (length path - 1)) target ∙ ap (λ k. path_pair code path b.target k (length path - 1)) number in
-    let with_b = subst (λ (q : Back). AreWith b.last.backs q a.backs) pair (subst (λ (p : Place). AreWith p.backs (path_pair code path a.target a.number (length path - 1)) a.backs) lasts a.with_pair) in
+    let with_b = subst (λ (q : Back). AreWith b.last.backs q a.backs) pair
+    (subst (λ (p : Place). AreWith p.backs (path_pair code path a.target a.number (length path - 1)) a.backs) lasts a.with_pair) in
     let backs : a.backs ≡ b.backs = with_alike b.last.backs (path_pair code path b.target b.number (length path - 1)) a.backs b.backs with_b b.with_pair in
     let assume : ℕ → Point → VInstr = λ k t. Assume gs (turns_back code path k) t last in
     a.same
@@ -69,7 +74,8 @@ delayed_alike code path gs one other a b =
     ∙ ap (λ (bs : List Back). delayed code b.places before last b.from (fresh_place (Assume gs (turns_back code path b.number) b.target last) b.last bs)) backs
     ∙ sym b.same
 
-pub delayed_unique : (P : Program) (code : Code) (path : List Label) (gs : List Guard) (one other : Code) → IsAfterDelay P code path gs one → IsAfterDelay P code path gs other → one ≡ other
+pub delayed_unique : (P : Program) (code : Code) (path : List Label) (gs : List Guard) (one other : Code) → IsAfterDelay P code path gs one →
+    IsAfterDelay P code path gs other → one ≡ other
 delayed_unique P code path gs one other a b = ⊎_elim
     (λ x. ⊎_elim (λ y. delayed_alike code path gs one other x.1 y.1) (λ y. absurd (none-some y.0 (sym x.0 ∙ y.1))) b)
     (λ x. ⊎_elim (λ y. absurd (none-some x.0 (sym y.0 ∙ x.1))) (λ y. x.2 ∙ sym y.2) b)

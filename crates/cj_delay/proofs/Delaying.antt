@@ -17,9 +17,11 @@ use Rattle.cj_delay.specs.DelaySteps.{IsFreshPlace, IsLed}
 pub record IsAssumeAt (code : Code) (path : List Label) (gs : List Guard) (number : ℕ) (target : Point) (fresh : Place) : Type 0 where
   pub last : Place
   pub at : place_at code (on_path path (length path - 1)) ≡ Some last
-  pub is_fresh : IsFreshPlace (Assume gs (turns_back code path number) target (on_path path (length path - 1))) last (path_pair code path target number (length path - 1)) fresh
+  pub is_fresh : IsFreshPlace (Assume gs (turns_back code path number) target (on_path path (length path - 1))) last
+      (path_pair code path target number (length path - 1)) fresh
 
-pub delayed_by : (code : Code) (path : List Label) (gs : List Guard) (anchor : Place) (number : ℕ) (target : Point) (next : Label) → place_at code (on_path path 0) ≡ Some anchor → anchor.instr ≡ Anchor number target next
+pub delayed_by : (code : Code) (path : List Label) (gs : List Guard) (anchor : Place) (number : ℕ) (target : Point) (next : Label) →
+    place_at code (on_path path 0) ≡ Some anchor → anchor.instr ≡ Anchor number target next
     → (fresh : Place) → IsAssumeAt code path gs number target fresh
     → (now : Code) → now ≡ with_places code now.places → AreMarked code path target number (length path - 1) now.places
     → (made : Code) → IsLed now (on_path path (length path - 2)) (on_path path (length path - 1)) fresh made → IsDelayed code path gs made
@@ -46,7 +48,10 @@ delayed_by code path gs anchor number target next at is fresh assume now same ma
       backs = f.backs;
       with_pair = f.with_pair;
       same = led.same
-          ∙ ap (λ (k : Code). with_places k (slice_set now.places before.0 (with_instr (led_edge last (fresh_label now) led.from.instr) led.from) ++ fresh ∷ [])) same
-          ∙ ap (λ (l : ℕ). with_places code (slice_set now.places before.0 (with_instr (led_edge last (record { 0 = l }) led.from.instr) led.from) ++ fresh ∷ [])) marked.count
-          ∙ ap (λ (p : Place). with_places code (slice_set now.places before.0 (with_instr (led_edge last (fresh_label code) led.from.instr) led.from) ++ p ∷ [])) fresh_is;
+          ∙ ap (λ (k : Code). with_places k (slice_set now.places before.0 (with_instr (led_edge last (fresh_label now) led.from.instr) led.from) ++ fresh
+          ∷ [])) same
+          ∙ ap (λ (l : ℕ). with_places code (slice_set now.places before.0 (with_instr (led_edge last (record { 0 = l }) led.from.instr) led.from) ++ fresh
+          ∷ [])) marked.count
+          ∙ ap (λ (p : Place). with_places code (slice_set now.places before.0 (with_instr (led_edge last (fresh_label code) led.from.instr) led.from) ++ p
+          ∷ [])) fresh_is;
     }

@@ -38,13 +38,15 @@ module _ (code now : Code) (path : List Label) (target : Point) (number at : ℕ
   pub still_within : (on_path path at).0 < length now.places
   still_within = omega (arith, is_in.within at within, marked.count)
 
-  pub turns_more_now : (turns more : ℕ) → turns ≡ number + turns_before code path at → more ≡ cond (turn_at now (on_path path at)) 1 0 → turns + more ≡ number + turns_before code path (at + 1)
+  pub turns_more_now : (turns more : ℕ) → turns ≡ number + turns_before code path at → more ≡ cond (turn_at now (on_path path at)) 1 0 →
+      turns + more ≡ number + turns_before code path (at + 1)
   turns_more_now turns more is_turns is_more =
       let step = turns_more code path at some within in
       let as_code : more ≡ cond (turn_at code (on_path path at)) 1 0 = is_more ∙ ap (λ b. cond b 1 0) turn_unmarked in
       omega (arith, step, as_code)
 
-  module _ (next : Code) (turns : ℕ) (is_turns : turns ≡ number + turns_before code path at) (is : IsMarkedAt now (on_path path at) (pair_of turns target) next) where
+  module _ (next : Code) (turns : ℕ) (is_turns : turns ≡ number + turns_before code path at)
+      (is : IsMarkedAt now (on_path path at) (pair_of turns target) next) where
     places_are : next.places ≡ slice_set now.places (on_path path at).0 is.marked
     unfolding with_places
     places_are = ap (λ (k : Code). k.places) is.same
@@ -66,9 +68,11 @@ module _ (code now : Code) (path : List Label) (target : Point) (number at : ℕ
           marked = λ j place first before there. ⊎_elim
               (λ (here : j ≡ at).
               let old : is.place ≡ place = same_Some is.place place (sym is.at ∙ unmarked ∙ ap (λ i. place_at code (on_path path i)) (sym here) ∙ there) in
-              let pair : pair_of turns target ≡ path_pair code path target number j = ap (λ i. pair_of i target) (is_turns ∙ ap (λ i. number + turns_before code path i) (sym here)) in (
+              let pair : pair_of turns target
+              ≡ path_pair code path target number j = ap (λ i. pair_of i target) (is_turns ∙ ap (λ i. number + turns_before code path i) (sym here)) in (
                 is.is_marked.backs,
-                subst (λ (q : Back). AreWith place.backs q is.is_marked.backs) pair (subst (λ (p : Place). AreWith p.backs (pair_of turns target) is.is_marked.backs) old is.is_marked.with_pair),
+                subst (λ (q : Back). AreWith place.backs q is.is_marked.backs) pair
+                    (subst (λ (p : Place). AreWith p.backs (pair_of turns target) is.is_marked.backs) old is.is_marked.with_pair),
                 ap (λ (ps : List Place). slice_get ps (on_path path j).0) places_are
                     ∙ ap (λ i. slice_get places (on_path path i).0) here
                     ∙ get-set_same now.places label.0 is.marked inside

@@ -33,10 +33,12 @@ count_some l (x ∷ xs) c =
     (λ more. omega (arith, split, count_some l xs more))
     (Contains-append_cases (x ∷ []) xs l c)
 
-count_nexts : (l : Label) (places : List Place) (j : ℕ) (q : Place) → slice_get places j ≡ Some q → Contains (successors q.instr) l → 1 ≤ count_by (is_label l) (all_nexts places)
+count_nexts : (l : Label) (places : List Place) (j : ℕ) (q : Place) → slice_get places j ≡ Some q → Contains (successors q.instr) l →
+    1 ≤ count_by (is_label l) (all_nexts places)
 count_nexts l places j q at c = count_some l (all_nexts places) (nexts_contain places j q l at c)
 
-one_place : (l : Label) (places : List Place) (i j : ℕ) (p q : Place) → slice_get places i ≡ Some p → slice_get places j ≡ Some q → Contains (successors p.instr) l → Contains (successors q.instr) l → count_by (is_label l) (all_nexts places) ≤ 1 → i ≡ j
+one_place : (l : Label) (places : List Place) (i j : ℕ) (p q : Place) → slice_get places i ≡ Some p → slice_get places j ≡ Some q →
+    Contains (successors p.instr) l → Contains (successors q.instr) l → count_by (is_label l) (all_nexts places) ≤ 1 → i ≡ j
 unfolding all_nexts
 one_place l [] i j p q at at' c c' few = absurd (none-some p at)
 one_place l (x ∷ places) zero zero p q at at' c c' few = refl
@@ -52,7 +54,8 @@ one_place l (x ∷ places) (suc i) (suc j) p q at at' c c' few =
     ap suc (one_place l places i j p q at at' c c' (omega (arith, count-append (is_label l) (successors x.instr) (all_nexts places))))
 
 -- the places from which edges go into the label are one
-pub only_edge : (code : Code) (l x y : Label) (p q : Place) → edges_into code l ≡ 1 → place_at code x ≡ Some p → place_at code y ≡ Some q → Contains (successors p.instr) l → Contains (successors q.instr) l → x.0 ≡ y.0
+pub only_edge : (code : Code) (l x y : Label) (p q : Place) → edges_into code l ≡ 1 → place_at code x ≡ Some p → place_at code y ≡ Some q →
+    Contains (successors p.instr) l → Contains (successors q.instr) l → x.0 ≡ y.0
 unfolding edges_into
 only_edge code l x y p q one at at' c c' = one_place l code.places x.0 y.0 p q at at' c c' (omega (arith, one))
 
@@ -65,7 +68,8 @@ entry_other code l x p one at c e =
 
 -- ---- edges of a code
 
-nexts_within : (P : Program) (regs n : ℕ) (places : List Place) → ((i : ℕ) (p : Place) → slice_get places i ≡ Some p → IsPlaceFine P regs n p) → All (λ (y : Label). y.0 < n) (all_nexts places)
+nexts_within : (P : Program) (regs n : ℕ) (places : List Place) → ((i : ℕ) (p : Place) → slice_get places i ≡ Some p → IsPlaceFine P regs n p) →
+    All (λ (y : Label). y.0 < n) (all_nexts places)
 unfolding all_nexts
 nexts_within P regs n [] fine = All-nil (λ (y : Label). y.0 < n)
 nexts_within P regs n (p ∷ places) fine =
@@ -74,10 +78,13 @@ nexts_within P regs n (p ∷ places) fine =
 
 pub named_within : (P : Program) (code : Code) → WellNamed P code → AreNextsWithin code.places
 named_within P code named = record {
-  within = nexts_within P code.regs (length code.places) code.places (λ i p at. all_at (IsPlaceFine P code.regs (length code.places)) code.places i p named.places at);
+  within = nexts_within P code.regs (length code.places) code.places
+      (λ i p at. all_at (IsPlaceFine P code.regs (length code.places)) code.places i p named.places at);
 }
 
-pub next_within : (code : Code) (x : Label) (p : Place) (next : Label) → AreNextsWithin code.places → place_at code x ≡ Some p → Contains (successors p.instr) next → next.0 < length code.places
-next_within code x p next closed at c = All-contains (λ (y : Label). y.0 < length code.places) (all_nexts code.places) next closed.within (nexts_contain code.places x.0 p next at c)
+pub next_within : (code : Code) (x : Label) (p : Place) (next : Label) → AreNextsWithin code.places → place_at code x ≡ Some p →
+    Contains (successors p.instr) next → next.0 < length code.places
+next_within code x p next closed at c = All-contains (λ (y : Label). y.0 < length code.places) (all_nexts code.places) next closed.within
+    (nexts_contain code.places x.0 p next at c)
 
 -- ---- edges that are led

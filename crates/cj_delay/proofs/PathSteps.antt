@@ -1,5 +1,6 @@
 -- Steps of a path.
-use Rattle.std.proofs.Common.{◌≡◌, ℕ, zero, suc, ◌+◌, ◌-◌, ◌<◌, ◌≤◌, Bool, true, false, not, ◌||◌, cond, List, [], ◌∷◌, ◌++◌, length, get_or, take, drop, Option, Some, None, refl, sym, ap, ◌∙◌, subst, arith}
+use Rattle.std.proofs.Common.{◌≡◌, ℕ, zero, suc, ◌+◌, ◌-◌, ◌<◌, ◌≤◌, Bool, true, false, not, ◌||◌, cond, List, [], ◌∷◌, ◌++◌, length, get_or, take, drop}
+use Rattle.std.proofs.Common.{Option, Some, None, refl, sym, ap, ◌∙◌, subst, arith}
 use Rattle.std.specs.Prelude.{slice_get, count_by, Contains, nat_eq}
 use Rattle.std.specs.List.{list_any}
 use Rattle.std.proofs.lemmas.List.{take_more}
@@ -26,18 +27,22 @@ unfolding is_label
 any_contains label [] e = let f : false ≡ true = e in absurd (cc)
 any_contains label (x ∷ labels) e = by_test (nat_eq x.0 label.0) refl (λ h. any_contains label labels h) e
   where
-    by_test : (b : Bool) → nat_eq x.0 label.0 ≡ b → (list_any (is_label label) labels ≡ true → Contains labels label) → b || list_any (is_label label) labels ≡ true → Contains (x ∷ labels) label
+    by_test : (b : Bool) → nat_eq x.0 label.0 ≡ b → (list_any (is_label label) labels ≡ true → Contains labels label) →
+        b || list_any (is_label label) labels ≡ true → Contains (x ∷ labels) label
     by_test true is more e = (0, omega arith, same_label x label (eqb-true x.0 label.0 is))
     by_test false is more e = Contains-append_right (x ∷ []) labels label (more e)
 
-pub edge_parts : (code : Code) (path : List Label) (at : ℕ) → is_edge code path at ≡ true → Contains (nexts_in (place_at code (on_path path (at - 1)))) (on_path path at) × (not (list_any (is_label (on_path path at)) (take at path)) ≡ true)
+pub edge_parts : (code : Code) (path : List Label) (at : ℕ) → is_edge code path at ≡ true →
+    Contains (nexts_in (place_at code (on_path path (at - 1)))) (on_path path at) × (not (list_any (is_label (on_path path at)) (take at path)) ≡ true)
 unfolding is_edge
 edge_parts code path at e =
-    let parts = and_parts (list_any (is_label (on_path path at)) (nexts_in (place_at code (on_path path (at - 1))))) (not (list_any (is_label (on_path path at)) (take at path))) e in
+    let parts = and_parts (list_any (is_label (on_path path at)) (nexts_in (place_at code (on_path path (at - 1)))))
+    (not (list_any (is_label (on_path path at)) (take at path))) e in
     (any_contains (on_path path at) (nexts_in (place_at code (on_path path (at - 1)))) parts.0, parts.1)
 
 -- what a place goes on to, all places do
-pub nexts_contain : (places : List Place) (i : ℕ) (p : Place) (next : Label) → slice_get places i ≡ Some p → Contains (successors p.instr) next → Contains (all_nexts places) next
+pub nexts_contain : (places : List Place) (i : ℕ) (p : Place) (next : Label) → slice_get places i ≡ Some p → Contains (successors p.instr) next →
+    Contains (all_nexts places) next
 unfolding all_nexts nexts_in
 nexts_contain [] i p next at c = absurd (none-some p at)
 nexts_contain (q ∷ places) zero p next at c =
@@ -58,7 +63,8 @@ has_edge code from next c = by_place (place_at code from) refl c
     by_place None at c = let h : c.0 < 0 = c.1 in absurd (omega arith)
     by_place (Some p) at c = record { place = p; at = at; goes = c }
 
-pub edge_within : (code : Code) (path : List Label) (at : ℕ) → AreNextsWithin code.places → is_edge code path at ≡ true → (on_path path at).0 < length code.places
+pub edge_within : (code : Code) (path : List Label) (at : ℕ) → AreNextsWithin code.places → is_edge code path at ≡ true →
+    (on_path path at).0 < length code.places
 edge_within code path at closed e =
     let edge = has_edge code (on_path path (at - 1)) (on_path path at) (edge_parts code path at e).0 in
     All-contains (λ (next : Label). next.0 < length code.places) (all_nexts code.places) (on_path path at) closed.within
@@ -75,7 +81,8 @@ length_take_some [] i h k = absurd (omega arith)
 length_take_some (x ∷ path) zero h k = absurd (omega arith)
 length_take_some (x ∷ path) (suc i) h k = omega arith
 
-pub turns_more : (code : Code) (path : List Label) (i : ℕ) → 0 < i → i < length path → turns_before code path (i + 1) ≡ turns_before code path i + cond (turn_at code (on_path path i)) 1 0
+pub turns_more : (code : Code) (path : List Label) (i : ℕ) → 0 < i → i < length path →
+    turns_before code path (i + 1) ≡ turns_before code path i + cond (turn_at code (on_path path i)) 1 0
 unfolding turns_before on_path
 turns_more code path i h k =
     let x : Label = get_or path i (record { 0 = 0 }) in
@@ -92,7 +99,8 @@ turns_first code (x ∷ path) = refl
 
 -- ---- steps
 
-pub steps_on : (P : Program) (code : Code) (path : List Label) (at : ℕ) (whole : Option Skipped) → at < length path → step_offence P code path at ≡ None → steps_offence P code path (length path - at) at ≡ whole → steps_offence P code path (length path - (at + 1)) (at + 1) ≡ whole
+pub steps_on : (P : Program) (code : Code) (path : List Label) (at : ℕ) (whole : Option Skipped) → at < length path → step_offence P code path at ≡ None →
+    steps_offence P code path (length path - at) at ≡ whole → steps_offence P code path (length path - (at + 1)) (at + 1) ≡ whole
 unfolding steps_offence or_next
 steps_on P code path at whole h none so_far =
     let n = length path - (at + 1) in
@@ -102,7 +110,8 @@ steps_on P code path at whole h none so_far =
     ∙ sym (ap (λ (o : Option Skipped). or_next o (steps_offence P code path n (suc at))) none)
     ∙ ap (λ k. steps_offence P code path k at) left ∙ so_far
 
-pub steps_found : (P : Program) (code : Code) (path : List Label) (at : ℕ) (skipped : Skipped) (whole : Option Skipped) → at < length path → step_offence P code path at ≡ Some skipped → steps_offence P code path (length path - at) at ≡ whole → Some skipped ≡ whole
+pub steps_found : (P : Program) (code : Code) (path : List Label) (at : ℕ) (skipped : Skipped) (whole : Option Skipped) → at < length path →
+    step_offence P code path at ≡ Some skipped → steps_offence P code path (length path - at) at ≡ whole → Some skipped ≡ whole
 unfolding steps_offence or_next
 steps_found P code path at skipped whole h some so_far =
     let n = length path - (at + 1) in
@@ -110,7 +119,8 @@ steps_found P code path at skipped whole h some so_far =
     sym (ap (λ (o : Option Skipped). or_next o (steps_offence P code path n (suc at))) some)
     ∙ ap (λ k. steps_offence P code path k at) left ∙ so_far
 
-pub steps_done : (P : Program) (code : Code) (path : List Label) (at : ℕ) (whole : Option Skipped) → length path ≤ at → steps_offence P code path (length path - at) at ≡ whole → None ≡ whole
+pub steps_done : (P : Program) (code : Code) (path : List Label) (at : ℕ) (whole : Option Skipped) → length path ≤ at →
+    steps_offence P code path (length path - at) at ≡ whole → None ≡ whole
 unfolding steps_offence
 steps_done P code path at whole h so_far =
     let left : 0 ≡ length path - at = omega arith in

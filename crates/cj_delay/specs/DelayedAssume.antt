@@ -1,5 +1,6 @@
 -- An Assume on the last edge of a path that an Anchor begins.
-use Rattle.std.specs.Prelude.{◌≡◌, ◌≢◌, ℕ, zero, suc, ◌+◌, ◌-◌, ◌<◌, ◌⊎◌, Bool, true, false, not, ◌&&◌, nat_lt, nat_le, nat_eq, cond, List, [], ◌∷◌, ◌++◌, length, take, drop, count_by, Option, Some, None, slice_get, slice_set, slice_index_or}
+use Rattle.std.specs.Prelude.{◌≡◌, ◌≢◌, ℕ, zero, suc, ◌+◌, ◌-◌, ◌<◌, ◌⊎◌, Bool, true, false, not, ◌&&◌, nat_lt, nat_le, nat_eq, cond, List, [], ◌∷◌, ◌++◌}
+use Rattle.std.specs.Prelude.{length, take, drop, count_by, Option, Some, None, slice_get, slice_set, slice_index_or}
 use Rattle.std.specs.List.{list_any}
 use Rattle.cj_draft.specs.declared.limits.TheConstants.{MAX_BACK}
 use Rattle.cj_ir.specs.declared.language.Label.{Label}
@@ -176,7 +177,8 @@ path_pair code path target number at = pair_of (number + turns_before code path 
 pub record AreMarked (code : Code) (path : List Label) (target : Point) (number upto : ℕ) (places : List Place) : Type 0 where
   pub count : length places ≡ length code.places
   pub marked : (at : ℕ) (place : Place) → 0 < at → at < upto → place_at code (on_path path at) ≡ Some place →
-      (backs : List Back) × AreWith place.backs (path_pair code path target number at) backs × (slice_get places (on_path path at).0 ≡ Some (with_backs backs place))
+      (backs : List Back) × AreWith place.backs (path_pair code path target number at) backs
+      × (slice_get places (on_path path at).0 ≡ Some (with_backs backs place))
   pub others : (label : Label) → ((at : ℕ) → 0 < at → at < upto → on_path path at ≢ label) →
       slice_get places label.0 ≡ place_at code label
 
@@ -218,7 +220,8 @@ pub record IsDelayed (code : Code) (path : List Label) (guards : List Guard) (ma
   pub at_last : place_at code (on_path path (length path - 1)) ≡ Some last
   pub backs : List Back
   pub with_pair : AreWith last.backs (path_pair code path target number (length path - 1)) backs
-  pub same : made ≡ delayed code places (on_path path (length path - 2)) (on_path path (length path - 1)) from (fresh_place (Assume guards (turns_back code path number) target (on_path path (length path - 1))) last backs)
+  pub same : made ≡ delayed code places (on_path path (length path - 2)) (on_path path (length path - 1)) from
+      (fresh_place (Assume guards (turns_back code path number) target (on_path path (length path - 1))) last backs)
 
 -- `made` is the code after the pass: where a condition is against it, the code stays. There is no other.
 abbrev pub IsAfterDelay : Program → Code → List Label → List Guard → Code → Type 0

@@ -19,7 +19,8 @@ use Rattle.cj_draft.specs.declared.passes.Skipped.{Skipped}
 use Rattle.cj_draft.specs.declared.passes.Skipped.TheVariants.{NoPlace, NotCall, Other, Deep}
 use Rattle.cj_draft.specs.Arrives.{place_at}
 use Rattle.cj_rows.proofs.Room.{not_full}
-use Rattle.cj_inline.specs.Inlining.{most_frames, called_by, if_reached, called, if_other, if_deep, full_offence, room_offence, callee_offence, offence_by, offence_at, inline_offence}
+use Rattle.cj_inline.specs.Inlining.{most_frames, called_by, if_reached, called, if_other, if_deep, full_offence, room_offence, callee_offence, offence_by}
+use Rattle.cj_inline.specs.Inlining.{offence_at, inline_offence}
 
 -- the call that the callee stands for, and the room for it
 pub record CanInline (code : Code) (c : Label) (callee : Code) : Type 0 where

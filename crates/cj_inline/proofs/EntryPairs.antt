@@ -9,7 +9,8 @@ use Rattle.cj_inline.specs.Entries.{or_zero, entry_pair}
 pair_of : ℕ → Operand → Pair
 pair_of dest value = record { dest = record { 0 = dest }; value = value }
 
-first_pair : (first n : ℕ) (args : List Operand) → entry_pairs first args (suc n) ≡ pair_of first (or_zero (slice_get args 0)) ∷ entry_pairs (suc first) (drop 1 args) n
+first_pair : (first n : ℕ) (args : List Operand) → entry_pairs first args (suc n) ≡ pair_of first (or_zero (slice_get args 0))
+    ∷ entry_pairs (suc first) (drop 1 args) n
 unfolding entry_pairs pair_of or_zero
 first_pair first n [] = refl
 first_pair first n (arg ∷ args) = refl
@@ -29,7 +30,8 @@ drop_dropped xs i = let e : suc i ≡ i + 1 = omega arith in subst (λ n. drop 1
     by_list (x ∷ xs) zero = refl
     by_list (x ∷ xs) (suc i) = by_list xs i
 
-pub next_pair : (first count i : ℕ) (args : List Operand) → i < count → entry_pairs (first + i) (drop i args) (count - i) ≡ entry_pair first args i ∷ entry_pairs (first + (i + 1)) (drop (i + 1) args) (count - (i + 1))
+pub next_pair : (first count i : ℕ) (args : List Operand) → i < count → entry_pairs (first + i) (drop i args) (count - i) ≡ entry_pair first args i
+    ∷ entry_pairs (first + (i + 1)) (drop (i + 1) args) (count - (i + 1))
 unfolding entry_pair pair_of
 next_pair first count i args lt =
     let left : count - i ≡ suc (count - (i + 1)) = omega arith in

@@ -16,7 +16,8 @@ unfolding greatest_of
 greatest_push f xs y = max_push (greatest_of f) f refl (λ x xs. refl) xs y
 
 -- one item more
-pub greatest_more : {X : Type 0} (f : X → ℕ) (xs : List X) (i most here new : ℕ) (x : X) → i < length xs → x ≡ get_or xs i x → most ≡ greatest_of f (take i xs) → here ≡ f x → new ≡ max most here → new ≡ greatest_of f (take (i + 1) xs)
+pub greatest_more : {X : Type 0} (f : X → ℕ) (xs : List X) (i most here new : ℕ) (x : X) → i < length xs → x ≡ get_or xs i x →
+    most ≡ greatest_of f (take i xs) → here ≡ f x → new ≡ max most here → new ≡ greatest_of f (take (i + 1) xs)
 greatest_more f xs i most here new x lt is so_far one both =
     both ∙ ap₂ max so_far (one ∙ ap f is) ∙ sym (greatest_push f (take i xs) (get_or xs i x)) ∙ sym (ap (greatest_of f) (take_more xs i x lt))
 
@@ -53,7 +54,8 @@ place_within : (P : Program) (n k : ℕ) (p : Place) → IsPlaceFine P n k p →
 unfolding place_frames back_frames
 place_within P n k p fine =
     let backs : greatest_of (λ pair. length pair.point.frames) p.backs ≤ 4 =
-    greatest_within (λ pair. length pair.point.frames) 4 p.backs (All-weaker (IsBackFine P n) (λ pair. length pair.point.frames ≤ 4) (λ pair one. one.point.few_frames) p.backs fine.backs) in
+    greatest_within (λ pair. length pair.point.frames) 4 p.backs
+    (All-weaker (IsBackFine P n) (λ pair. length pair.point.frames ≤ 4) (λ pair one. one.point.few_frames) p.backs fine.backs) in
     omega (arith, fine.point.few_frames, target_within P n k p.instr fine.instr, backs)
 
 -- a code's points have at most four frames

@@ -14,7 +14,8 @@ use Rattle.cj_draft.specs.Inlining.{shift_label, inlined_instr}
 use Rattle.cj_rows.specs.Rows.{guard_at}
 use Rattle.cj_rows.proofs.RowLemmas.{no_row, one_row, row_next, row_ends}
 
-pub guard_next-inlined : (n k : ℕ) (tail : List PointFrame) (dest : Reg) (after : Label) (i : VInstr) → guard_next (inlined_instr n k tail dest after i) ≡ option_map (shift_label k) (guard_next i)
+pub guard_next-inlined : (n k : ℕ) (tail : List PointFrame) (dest : Reg) (after : Label) (i : VInstr) → guard_next (inlined_instr n k tail dest after i)
+    ≡ option_map (shift_label k) (guard_next i)
 unfolding guard_next inlined_instr
 guard_next-inlined n k tail dest after (Nop x) = refl
 guard_next-inlined n k tail dest after (Op d e x) = refl
@@ -47,7 +48,8 @@ module _ (code callee code' : Code) (g : HasGuardsOfBoth code callee code') wher
       by_guard (Some y) e = absurd (row_ends code x y e row)
   row_old (suc n) x within row = by_guard (λ y h r. row_old n y h r) (guard_at code x) refl
     where
-      by_guard : ((y : Label) → y.0 < length code.places → RowWithin code n y → RowWithin code' n y) → (o : Option Label) → guard_at code x ≡ o → RowWithin code' (suc n) x
+      by_guard : ((y : Label) → y.0 < length code.places → RowWithin code n y → RowWithin code' n y) → (o : Option Label) → guard_at code x ≡ o →
+          RowWithin code' (suc n) x
       by_guard ih None e = no_row code' (suc n) x (g.old x within ∙ e)
       by_guard ih (Some y) e = one_row code' n x y (g.old x within ∙ e) (ih y (g.edges x y e) (row_next code n x y e row))
 
@@ -59,7 +61,8 @@ module _ (code callee code' : Code) (g : HasGuardsOfBoth code callee code') wher
       by_guard (Some y) e = absurd (row_ends callee x y e row)
   row_new (suc n) x row = by_guard (λ y r. row_new n y r) (guard_at callee x) refl
     where
-      by_guard : ((y : Label) → RowWithin callee n y → RowWithin code' n (shift_label (length code.places) y)) → (o : Option Label) → guard_at callee x ≡ o → RowWithin code' (suc n) (shift_label (length code.places) x)
+      by_guard : ((y : Label) → RowWithin callee n y → RowWithin code' n (shift_label (length code.places) y)) → (o : Option Label) → guard_at callee x ≡ o →
+          RowWithin code' (suc n) (shift_label (length code.places) x)
       by_guard ih None e = no_row code' (suc n) (shift_label (length code.places) x) (g.new x ∙ ap (option_map (shift_label (length code.places))) e)
       by_guard ih (Some y) e =
           one_row code' n (shift_label (length code.places) x) (shift_label (length code.places) y)

@@ -1,5 +1,6 @@
 -- A sound callee in the place of a call keeps that a code is sound.
-use Rattle.std.proofs.Common.{◌≡◌, ◌≢◌, ℕ, ◌+◌, ◌-◌, ◌<◌, ◌≤◌, ◌⊎◌, List, [], ◌++◌, length, map, Option, Some, None, refl, sym, ap, ap₂, ◌∙◌, subst, inl, inr, ⊎_elim, arith, length-append}
+use Rattle.std.proofs.Common.{◌≡◌, ◌≢◌, ℕ, ◌+◌, ◌-◌, ◌<◌, ◌≤◌, ◌⊎◌, List, [], ◌++◌, length, map, Option, Some, None, refl, sym, ap, ap₂, ◌∙◌, subst, inl, inr}
+use Rattle.std.proofs.Common.{⊎_elim, arith, length-append}
 use Rattle.std.specs.Prelude.{slice_get, slice_set, All, Contains}
 use Rattle.std.specs.Option.{option_map}
 use Rattle.std.proofs.lemmas.Bool.{cases_lt}
@@ -35,7 +36,8 @@ use Rattle.cj_rows.specs.Rows.{guard_in, guard_at}
 use Rattle.cj_rows.proofs.ListReads.{get-set_same, get-set_other, get-append_left}
 use Rattle.cj_rows.proofs.RowLemmas.{guard_place, has_guard}
 use Rattle.cj_inline.specs.declared.seams.Seam.{Seam}
-use Rattle.cj_inline.specs.Inlining.{most_frames, place_frames, inline_offence, inlined_back, inlined_place, seam_at, inlined_by, inlined_at, inlined, inlined_or_left}
+use Rattle.cj_inline.specs.Inlining.{most_frames, place_frames, inline_offence, inlined_back, inlined_place, seam_at, inlined_by, inlined_at, inlined}
+use Rattle.cj_inline.specs.Inlining.{inlined_or_left}
 use Rattle.cj_inline.proofs.MapReads.{get-append_after, get-map_some, get-map_from, contains-map, contains-map_from}
 use Rattle.cj_inline.proofs.Greatest.{greatest_bounds}
 use Rattle.cj_draft.proofs.Wider.{place_wider}
@@ -140,7 +142,8 @@ module _ (P : Program) (formed : IsWellFormed P) (context : List Fact) (f : FunI
   tail : List PointFrame
   tail = appended_frames P can.place.point.frames
 
-  is_inlined : (p : Place) → HasFirst p.point → ((q : Back) → Contains p.backs q → HasFirst q.point) → IsInlined code.regs (length code.places) tail can.dest can.next p (inlined_place seam p)
+  is_inlined : (p : Place) → HasFirst p.point → ((q : Back) → Contains p.backs q → HasFirst q.point) →
+      IsInlined code.regs (length code.places) tail can.dest can.next p (inlined_place seam p)
   unfolding tail inlined_place inlined_back seam seam_at
   is_inlined p first firsts = record {
     instr = refl;
@@ -161,7 +164,8 @@ module _ (P : Program) (formed : IsWellFormed P) (context : List Fact) (f : FunI
   call_fine_at : IsVInstrFine P code.regs (length code.places) (Call can.dest D.function can.args can.next)
   call_fine_at = subst (IsVInstrFine P code.regs (length code.places)) can.instr (fine c can.place can.at).instr
 
-  kept : (x : Label) (p : Place) → place_at code x ≡ Some p → (p' : Place) × (place_at made x ≡ Some p') × (p.point ≡ p'.point) × (p.facts ≡ p'.facts) × (p.backs ≡ p'.backs)
+  kept : (x : Label) (p : Place) → place_at code x ≡ Some p → (p' : Place) × (place_at made x ≡ Some p') × (p.point ≡ p'.point) × (p.facts ≡ p'.facts)
+      × (p.backs ≡ p'.backs)
   unfolding enter call_place
   kept x p at = ⊎_elim
       (λ e.
@@ -170,7 +174,9 @@ module _ (P : Program) (formed : IsWellFormed P) (context : List Fact) (f : FunI
       (λ ne. (p, at_old x p ne at, refl, refl, refl))
       (label_cases x c)
 
-  callee : (x : Label) (p : Place) → place_at D x ≡ Some p → (p' : Place) × (place_at made (shift_label (length code.places) x) ≡ Some p') × IsInlined code.regs (length code.places) (appended_frames P can.place.point.frames) can.dest can.next p p' × (p'.facts ≡ joined_facts code.regs can.place.facts p.facts)
+  callee : (x : Label) (p : Place) → place_at D x ≡ Some p → (p' : Place) × (place_at made (shift_label (length code.places) x) ≡ Some p')
+      × IsInlined code.regs (length code.places) (appended_frames P can.place.point.frames) can.dest can.next p p'
+      × (p'.facts ≡ joined_facts code.regs can.place.facts p.facts)
   unfolding tail inlined_place seam seam_at
   callee x p at =
       let one = fine_D x p at in (
@@ -213,7 +219,8 @@ module _ (P : Program) (formed : IsWellFormed P) (context : List Fact) (f : FunI
 
   enter_fine : IsPlaceFine P (code.regs + D.regs) (length code.places + length D.places) enter
   unfolding enter
-  enter_fine = call_fine P code.regs D.regs (length code.places) (length D.places) D.entry can.args can.place call_fine_at.2 sound_D.named.entry (fine c can.place can.at)
+  enter_fine = call_fine P code.regs D.regs (length code.places) (length D.places) D.entry can.args can.place call_fine_at.2 sound_D.named.entry
+      (fine c can.place can.at)
 
   few_at : (x : Label) (p : Place) → place_at D x ≡ Some p → length can.place.point.frames + place_frames p ≤ 4
   unfolding most_frames
@@ -222,14 +229,16 @@ module _ (P : Program) (formed : IsWellFormed P) (context : List Fact) (f : FunI
       let one : place_frames p ≤ most_frames D.places = all_at (λ q. place_frames q ≤ most_frames D.places) D.places x.0 p all at in
       omega (arith, can.frames, one)
 
-  callee_fine : (x : Label) (p : Place) → place_at D x ≡ Some p → IsPlaceFine P (code.regs + D.regs) (length code.places + length D.places) (inlined_place seam p)
+  callee_fine : (x : Label) (p : Place) → place_at D x ≡ Some p →
+      IsPlaceFine P (code.regs + D.regs) (length code.places + length D.places) (inlined_place seam p)
   callee_fine x p at =
       place_inlined P code.regs D.regs (length code.places) (length D.places) (length can.place.point.frames) seam has_seam p (few_at x p at) (fine_D x p at)
 
   fine_from : (y : Label) (p' : Place) → place_at made y ≡ Some p' → IsFrom y p' → IsPlaceFine P (code.regs + D.regs) (length code.places + length D.places) p'
   unfolding IsFrom
   fine_from y p' at is = ⊎_elim
-      (λ was. place_wider P code.regs (code.regs + D.regs) (length code.places) (length code.places + length D.places) (omega arith) (omega arith) p' (fine y p' was))
+      (λ was. place_wider P code.regs (code.regs + D.regs) (length code.places) (length code.places + length D.places) (omega arith) (omega arith) p'
+      (fine y p' was))
       (λ fresh. ⊎_elim
       (λ e. subst (IsPlaceFine P (code.regs + D.regs) (length code.places + length D.places)) (sym e) enter_fine)
       (λ h.
@@ -273,7 +282,8 @@ module _ (P : Program) (formed : IsWellFormed P) (context : List Fact) (f : FunI
   unfolding inlined_place seam seam_at guard_in guard_at made
   guards_new x = by_place (place_at D x) refl
     where
-      by_place : (o : Option Place) → place_at D x ≡ o → guard_at made (shift_label (length code.places) x) ≡ option_map (shift_label (length code.places)) (guard_at D x)
+      by_place : (o : Option Place) → place_at D x ≡ o → guard_at made (shift_label (length code.places) x)
+          ≡ option_map (shift_label (length code.places)) (guard_at D x)
       by_place (Some p) e =
           guard_place made (shift_label (length code.places) x) (inlined_place seam p) (at_callee x p e)
           ∙ guard_next-inlined code.regs (length code.places) (appended_frames P can.place.point.frames) can.dest can.next p.instr
@@ -321,7 +331,8 @@ inlined_function P code c D = by_place (place_at code c)
     by_place None = refl
     by_place (Some p) = by_instr p p.instr
 
-pub left_alone : (P : Program) (code : Code) (c : Label) (D : Code) (skipped : Skipped) → inline_offence code c D ≡ Some skipped → code ≡ inlined_or_left P code c D
+pub left_alone : (P : Program) (code : Code) (c : Label) (D : Code) (skipped : Skipped) → inline_offence code c D ≡ Some skipped →
+    code ≡ inlined_or_left P code c D
 unfolding inlined_or_left unless
 left_alone P code c D skipped e = sym (ap (λ o. unless o code (inlined P code c D)) e)
 
@@ -334,7 +345,8 @@ not_left P code c D e = sym (ap (λ o. unless o code (inlined P code c D)) e)
 code_of : Code → ℕ → List Place → Code
 code_of code regs places = record { function = code.function; regs = regs; entry = code.entry; places = places }
 
-pub inlined_is : (P : Program) (code D : Code) (c : Label) (p : Place) (dest : Reg) (g : FunId) (args items : List Operand) (next entry : Label) (meets : Seam) (enter : Place) (led places : List Place)
+pub inlined_is : (P : Program) (code D : Code) (c : Label) (p : Place) (dest : Reg) (g : FunId) (args items : List Operand) (next entry : Label) (meets : Seam)
+    (enter : Place) (led places : List Place)
     → place_at code c ≡ Some p → p.instr ≡ Call dest g args next → meets ≡ seam_at P code p dest next → entry ≡ shift_label meets.labels D.entry → items ≡ args
     → enter ≡ call_place code.regs D.regs entry items p → led ≡ slice_set code.places c.0 enter → places ≡ led ++ map (inlined_place meets) D.places
     → record { function = code.function; regs = code.regs + D.regs; entry = code.entry; places = places } ≡ inlined P code c D

@@ -12,7 +12,8 @@ use Rattle.cj_draft.specs.declared.passes.Skipped.TheVariants.{NotCall}
 use Rattle.cj_draft.specs.Arrives.{place_at}
 use Rattle.cj_draft.specs.Inlining.{shift_label, call_place}
 use Rattle.cj_rows.proofs.ListReads.{get-set_same, get-append_left}
-use Rattle.cj_inline.specs.Inlining.{called_by, if_reached, called, offence_by, offence_at, inline_offence, inlined_place, seam_at, inlined_by, inlined_at, inlined, IsAfter}
+use Rattle.cj_inline.specs.Inlining.{called_by, if_reached, called, offence_by, offence_at, inline_offence, inlined_place, seam_at, inlined_by, inlined_at}
+use Rattle.cj_inline.specs.Inlining.{inlined, IsAfter}
 use Rattle.cj_inline.proofs.Conditions.{CanInline, can_inline}
 use Rattle.cj_inline.proofs.InlineSound.{not_left}
 
@@ -40,7 +41,8 @@ module _ (P : Program) (code callee : Code) (c : Label) (can : CanInline code c 
   unfolding inline_offence offence_at offence_by
   call_is_gone again = ap (offence_at (inlined P code c callee) c again) at_call ∙ ap (offence_by (inlined P code c callee) c again enter) no_call
 
-pub gone_after : (P : Program) (code callee made again : Code) (c : Label) → inline_offence code c callee ≡ None → IsAfter P code c callee made → inline_offence made c again ≡ Some (NotCall c)
+pub gone_after : (P : Program) (code callee made again : Code) (c : Label) → inline_offence code c callee ≡ None → IsAfter P code c callee made →
+    inline_offence made c again ≡ Some (NotCall c)
 gone_after P code callee made again c free after =
     ap (λ (k : Code). inline_offence k c again) (after ∙ sym (not_left P code c callee free))
     ∙ call_is_gone P code callee c (can_inline code c callee free) again

@@ -62,7 +62,8 @@ module _ (n r : ℕ) where
         λ e. h.differ i j d lt last (reg_back (slice_index_or ps i d).dest (slice_index_or ps j d).dest
         (sym (ap (λ (p : Pair). p.dest) (get_or-map (shift_pair n) ps i d d first)) ∙ e ∙ ap (λ (p : Pair). p.dest) (get_or-map (shift_pair n) ps j d d last)));
     operands = All-map (λ (p : Pair). IsOperandWithin (n + r) p.value) (shift_pair n) ps
-        (All-weaker (λ (p : Pair). IsOperandWithin r p.value) (λ (p : Pair). IsOperandWithin (n + r) (shift_operand n p.value)) (λ p. operand_shifted p.value) ps h.operands);
+        (All-weaker (λ (p : Pair). IsOperandWithin r p.value) (λ (p : Pair). IsOperandWithin (n + r) (shift_operand n p.value))
+        (λ p. operand_shifted p.value) ps h.operands);
   }
 
   frame_shifted : (P : Program) (f : PointFrame) → IsPointFrameFine P r f → IsPointFrameFine P (n + r) (shift_frame n f)
@@ -81,9 +82,11 @@ module _ (n r : ℕ) where
 -- ---- facts
 
 -- numbers below n, and then others n further on
-increasing_joined : (n : ℕ) (xs ys : List ℕ) → All (λ x. x < n) xs → IsStrictlyIncreasing xs → IsStrictlyIncreasing ys → IsStrictlyIncreasing (xs ++ map (λ y. n + y) ys)
+increasing_joined : (n : ℕ) (xs ys : List ℕ) → All (λ x. x < n) xs → IsStrictlyIncreasing xs → IsStrictlyIncreasing ys →
+    IsStrictlyIncreasing (xs ++ map (λ y. n + y) ys)
 increasing_joined n xs ys below up more k lt =
-    let all : length (xs ++ map (λ y. n + y) ys) ≡ length xs + length ys = length-append xs (map (λ y. n + y) ys) ∙ ap (λ z. length xs + z) (length-map ys (λ y. n + y)) in
+    let all : length (xs ++ map (λ y. n + y) ys) ≡ length xs + length ys = length-append xs (map (λ y. n + y) ys)
+    ∙ ap (λ z. length xs + z) (length-map ys (λ y. n + y)) in
     ⊎_elim
     (λ inside.
     let here = get_or_append_left xs (map (λ y. n + y) ys) 0 k (omega arith) in

@@ -1,5 +1,6 @@
 -- What several reads or writes in a row did to known bytes.
-use Rattle.std.proofs.Common.{◌≡◌, ◌∙◌, sym, ap, refl, ℕ, zero, suc, ◌+◌, ◌≤◌, List, [], ◌∷◌, ◌++◌, ◌-◌, length, take, drop, Option, Some, None, append_assoc, arith}
+use Rattle.std.proofs.Common.{◌≡◌, ◌∙◌, sym, ap, refl, ℕ, zero, suc, ◌+◌, ◌≤◌, List, [], ◌∷◌, ◌++◌, ◌-◌, length, take, drop, Option, Some, None, append_assoc}
+use Rattle.std.proofs.Common.{arith}
 use Rattle.std.proofs.lemmas.List.{take-append-drop, take-append-le, take_all, length-drop, length-take-le, drop-drop}
 use Rattle.std.specs.Io.KnownBytes.{Appends, Consumes}
 use Rattle.std.proofs.KnownBytes.{Consumes-trans}
@@ -30,7 +31,8 @@ take_split w n xs =
     take_two w n xs ∙ ap (λ r. take w xs ++ take n r) (sym all)
 
 -- the piece that a read moved into the buffer, and the bytes behind it
-pub piece-read : (xs mid buf : List ℕ) (at n : ℕ) → n ≤ length (drop at xs) → mid ≡ take n (take (length xs - at) (drop at xs)) → drop at xs ≡ take n (mid ++ drop n buf) ++ drop (at + n) xs
+pub piece-read : (xs mid buf : List ℕ) (at n : ℕ) → n ≤ length (drop at xs) → mid ≡ take n (take (length xs - at) (drop at xs)) →
+    drop at xs ≡ take n (mid ++ drop n buf) ++ drop (at + n) xs
 piece-read xs mid buf at n within is =
     let rest = drop at xs in
     let all : take (length xs - at) rest ≡ rest = take_all (length xs - at) rest (simp length-drop (omega arith)) in

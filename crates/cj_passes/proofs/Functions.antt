@@ -10,7 +10,8 @@ use Rattle.cj_draft.specs.declared.passes.Pass.TheVariants.{Anchors, Assume, Del
 use Rattle.cj_draft.specs.declared.passes.Skipped.{Skipped}
 use Rattle.cj_draft.specs.Arrives.{place_at}
 use Rattle.cj_anchor.specs.AnchorInsertion.{anchored, IsAnchored, AreAnchored, Finished, Placed, Passed}
-use Rattle.cj_assume.specs.ImmediateAssume.{assume_offence, guards_at, appended_in, appended, inserted_in, inserted, assumed_by, assumed_after, assumed, assumed_or_left}
+use Rattle.cj_assume.specs.ImmediateAssume.{assume_offence, guards_at, appended_in, appended, inserted_in, inserted, assumed_by, assumed_after, assumed}
+use Rattle.cj_assume.specs.ImmediateAssume.{assumed_or_left}
 use Rattle.cj_rows.specs.Places.{with_places}
 use Rattle.cj_draft.specs.declared.instructions.VInstr.{VInstr}
 use Rattle.cj_draft.specs.declared.instructions.VInstr.TheVariants.{Nop, Op, Move, Cond, Call, Return, Print, Load, Store, Fail}
@@ -26,7 +27,8 @@ one_anchor : (code made : Code) (label : Label) → IsAnchored code label made �
 unfolding anchored
 one_anchor code made label a = ap (λ (k : Code). k.function) a.same
 
-anchors_keep : (index : ℕ) (code made : Code) (labels : List Label) (skips : List (ℕ × Skipped)) → AreAnchored index code labels made skips → made.function ≡ code.function
+anchors_keep : (index : ℕ) (code made : Code) (labels : List Label) (skips : List (ℕ × Skipped)) → AreAnchored index code labels made skips →
+    made.function ≡ code.function
 anchors_keep index code made labels skips (Finished i k) = refl
 anchors_keep index code made labels skips (Placed i k next m l ls ss none is rest) = anchors_keep (i + 1) next m ls ss rest ∙ one_anchor k next l is
 anchors_keep index code made labels skips (Passed i k m l ls skipped ss some rest) = anchors_keep (i + 1) k m ls ss rest

@@ -1,5 +1,6 @@
 -- The items that are kept, one by one and all.
-use Rattle.std.proofs.Common.{◌≡◌, ℕ, zero, suc, ◌<◌, Bool, true, false, List, [], ◌∷◌, ◌++◌, length, map, take, drop, Some, refl, sym, ap, ap₂, ◌∙◌, subst, arith, append_assoc}
+use Rattle.std.proofs.Common.{◌≡◌, ℕ, zero, suc, ◌<◌, Bool, true, false, List, [], ◌∷◌, ◌++◌, length, map, take, drop, Some, refl, sym, ap, ap₂, ◌∙◌, subst}
+use Rattle.std.proofs.Common.{arith, append_assoc}
 use Rattle.std.specs.Prelude.{slice_get, All}
 use Rattle.std.proofs.lemmas.List.{append-nil}
 use Rattle.std.proofs.lemmas.Option.{same_Some, none-some}
@@ -14,7 +15,8 @@ unfolding kept_of
 kept_none [] = refl
 kept_none (keeps ∷ kept) = refl
 
-pub kept_first : {X : Type 0} (keeps : Bool) (kept : List Bool) (items : List X) → kept_of (keeps ∷ kept) items ≡ kept_of (keeps ∷ []) items ++ kept_of kept (drop 1 items)
+pub kept_first : {X : Type 0} (keeps : Bool) (kept : List Bool) (items : List X) → kept_of (keeps ∷ kept) items ≡ kept_of (keeps ∷ []) items
+    ++ kept_of kept (drop 1 items)
 unfolding kept_of
 kept_first true kept (item ∷ items) = refl
 kept_first false kept (item ∷ items) = refl
@@ -25,18 +27,22 @@ map_append f [] ys = refl
 map_append f (x ∷ xs) ys = ap (λ zs. f x ∷ zs) (map_append f xs ys)
 
 -- what is made and what is left, after one more
-pub kept_step : {X Y : Type 0} (f : X → Y) (made made' : List Y) (rest rest' : List X) (keeps : Bool) (kept : List Bool) (all : List Y) → made' ≡ made ++ map f (kept_of (keeps ∷ []) rest) → rest' ≡ drop 1 rest → made ++ map f (kept_of (keeps ∷ kept) rest) ≡ all → made' ++ map f (kept_of kept rest') ≡ all
+pub kept_step : {X Y : Type 0} (f : X → Y) (made made' : List Y) (rest rest' : List X) (keeps : Bool) (kept : List Bool) (all : List Y) →
+    made' ≡ made ++ map f (kept_of (keeps ∷ []) rest) → rest' ≡ drop 1 rest → made ++ map f (kept_of (keeps ∷ kept) rest) ≡ all →
+    made' ++ map f (kept_of kept rest') ≡ all
 kept_step f made made' rest rest' keeps kept all e left so_far =
     ap₂ (λ a b. a ++ map f (kept_of kept b)) e left
     ∙ append_assoc made (map f (kept_of (keeps ∷ []) rest)) (map f (kept_of kept (drop 1 rest)))
     ∙ ap (λ zs. made ++ zs) (sym (map_append f (kept_of (keeps ∷ []) rest) (kept_of kept (drop 1 rest))) ∙ ap (map f) (sym (kept_first keeps kept rest)))
     ∙ so_far
 
-pub kept_one : {X Y : Type 0} (f : X → Y) (made : List Y) (keeps : Bool) (rest : List X) (x : X) (more : List X) → rest ≡ x ∷ more → keeps ≡ true → made ++ map f (kept_of (keeps ∷ []) rest) ≡ made ++ f x ∷ []
+pub kept_one : {X Y : Type 0} (f : X → Y) (made : List Y) (keeps : Bool) (rest : List X) (x : X) (more : List X) → rest ≡ x ∷ more → keeps ≡ true →
+    made ++ map f (kept_of (keeps ∷ []) rest) ≡ made ++ f x ∷ []
 unfolding kept_of
 kept_one f made keeps rest x more e k = ap₂ (λ b zs. made ++ map f (kept_of (b ∷ []) zs)) k e
 
-pub kept_not : {X Y : Type 0} (f : X → Y) (made : List Y) (keeps : Bool) (rest : List X) (x : X) (more : List X) → rest ≡ x ∷ more → keeps ≡ false → made ++ map f (kept_of (keeps ∷ []) rest) ≡ made
+pub kept_not : {X Y : Type 0} (f : X → Y) (made : List Y) (keeps : Bool) (rest : List X) (x : X) (more : List X) → rest ≡ x ∷ more → keeps ≡ false →
+    made ++ map f (kept_of (keeps ∷ []) rest) ≡ made
 unfolding kept_of
 kept_not f made keeps rest x more e k = ap₂ (λ b zs. made ++ map f (kept_of (b ∷ []) zs)) k e ∙ append-nil made
 
@@ -51,7 +57,8 @@ kept_over f made kept rest e = ap (λ ks. made ++ map f (kept_of ks rest)) e ∙
 -- ---- where they stand
 
 -- a kept item stands at the number of kept ones before it
-pub kept_at : {X : Type 0} (kept : List Bool) (items : List X) (i : ℕ) (x : X) → slice_get kept i ≡ Some true → slice_get items i ≡ Some x → slice_get (kept_of kept items) (count_marks (take i kept)) ≡ Some x
+pub kept_at : {X : Type 0} (kept : List Bool) (items : List X) (i : ℕ) (x : X) → slice_get kept i ≡ Some true → slice_get items i ≡ Some x →
+    slice_get (kept_of kept items) (count_marks (take i kept)) ≡ Some x
 unfolding kept_of
 kept_at [] items i x e at = absurd (none-some true e)
 kept_at (keeps ∷ kept) [] i x e at = absurd (none-some x at)
@@ -103,5 +110,6 @@ pub all_kept : {X : Type 0} (Q : X → Type 0) (kept : List Bool) (items : List 
 unfolding kept_of
 all_kept Q [] items all = All-nil Q
 all_kept Q (keeps ∷ kept) [] all = All-nil Q
-all_kept Q (true ∷ kept) (item ∷ items) all = All-cons Q item (kept_of kept items) (All-head Q item items all) (all_kept Q kept items (All-tail Q item items all))
+all_kept Q (true ∷ kept) (item ∷ items) all = All-cons Q item (kept_of kept items) (All-head Q item items all)
+    (all_kept Q kept items (All-tail Q item items all))
 all_kept Q (false ∷ kept) (item ∷ items) all = all_kept Q kept items (All-tail Q item items all)

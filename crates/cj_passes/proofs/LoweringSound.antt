@@ -41,7 +41,8 @@ use Rattle.cj_passes.proofs.Searching.{reached_within}
 
 -- ---- the labels to which an effect leads are successors
 
-value_in : (R : Label → Type 0) (o : Option ℤ) (fault : Fault) (go : ℤ → Effect) → ((v : ℤ) → ReachesOn R (Plain (go v))) → ReachesOn R (Plain (with_value o fault go))
+value_in : (R : Label → Type 0) (o : Option ℤ) (fault : Fault) (go : ℤ → Effect) → ((v : ℤ) → ReachesOn R (Plain (go v))) →
+    ReachesOn R (Plain (with_value o fault go))
 unfolding with_value
 value_in R None fault go h = tt
 value_in R (Some v) fault go h = h v
@@ -173,7 +174,8 @@ module _ (P : Program) (context : List Fact) (f : FunId) (code : Code) (kept : L
   was : (y : Label) (p' : Place) → place_at code' y ≡ Some p' → Was p'
   unfolding code' lowered r
   was y p' at =
-      let m = was_mapped (led_place (led code kept)) (slice_get (kept_of kept code.places) y.0) p' (sym (slice_get-map (led_place (led code kept)) (kept_of kept code.places) y.0) ∙ at) in
+      let m = was_mapped (led_place (led code kept)) (slice_get (kept_of kept code.places) y.0) p'
+      (sym (slice_get-map (led_place (led code kept)) (kept_of kept code.places) y.0) ∙ at) in
       let s = stood_at kept code.places y.0 m.item m.is in
       let x : Label = record { 0 = s.place } in
       record { label = x; place = m.item; reached = (are.reached x).0 s.keeps; at = s.at; same = m.same }
@@ -241,7 +243,8 @@ module _ (P : Program) (context : List Fact) (f : FunId) (code : Code) (kept : L
       let same : led_place r old.0 ≡ p' = same_Some (led_place r old.0) p' (sym (kept_place x old.0 reached old.1) ∙ at') in
       let m = was_mapped r (guard_next old.0.instr) next' (sym (guard_led old.0 p' same) ∙ g) in
       subst (RowWithin code' n) m.same
-      (row_led n (passed code m.item) (Edge x old.0 m.item reached old.1 (guard_successor old.0.instr m.item m.is)) (row_passed code n m.item (row old.0 m.item old.1 m.is)))
+      (row_led n (passed code m.item) (Edge x old.0 m.item reached old.1 (guard_successor old.0.instr m.item m.is))
+      (row_passed code n m.item (row old.0 m.item old.1 m.is)))
 
   rows : (y : Label) → RowWithin code' 8 y
   unfolding r led
@@ -249,7 +252,8 @@ module _ (P : Program) (context : List Fact) (f : FunId) (code : Code) (kept : L
       let w = was y p' at' in
       let m = was_mapped r (guard_next w.place.instr) next' (sym (guard_led w.place p' w.same) ∙ g) in
       subst (RowWithin code' 7) m.same
-      (row_led 7 (passed code m.item) (Edge w.label w.place m.item w.reached w.at (guard_successor w.place.instr m.item m.is)) (row_passed code 7 m.item (sound.rows w.label w.place m.item w.at m.is)))
+      (row_led 7 (passed code m.item) (Edge w.label w.place m.item w.reached w.at (guard_successor w.place.instr m.item m.is))
+      (row_passed code 7 m.item (sound.rows w.label w.place m.item w.at m.is)))
 
   -- ---- the whole
 

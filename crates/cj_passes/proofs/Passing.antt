@@ -94,7 +94,8 @@ past_is_none code zero x row = by_anchor (anchor_at code x) refl
     by_anchor (Some next) e = absurd (row_zero code x next e row)
 past_is_none code (suc n) x row = by_anchor (λ y r. past_is_none code n y r) (anchor_at code x) refl
   where
-    by_anchor : ((y : Label) → RowWithin code n y → anchor_at code (past_anchors code n y) ≡ None) → (o : Option Label) → anchor_at code x ≡ o → anchor_at code (past_anchors code (suc n) x) ≡ None
+    by_anchor : ((y : Label) → RowWithin code n y → anchor_at code (past_anchors code n y) ≡ None) → (o : Option Label) → anchor_at code x ≡ o →
+        anchor_at code (past_anchors code (suc n) x) ≡ None
     by_anchor ih None e = ap (anchor_at code) (past_none code (suc n) x e) ∙ e
     by_anchor ih (Some next) e = ap (anchor_at code) (past_some code n x next e) ∙ ih next (row_after code n x next e row)
 
@@ -107,7 +108,8 @@ past_one_more code zero x row = by_anchor (anchor_at code x) refl
     by_anchor (Some next) e = absurd (row_zero code x next e row)
 past_one_more code (suc n) x row = by_anchor (λ y r. past_one_more code n y r) (anchor_at code x) refl
   where
-    by_anchor : ((y : Label) → RowWithin code n y → past_anchors code (suc n) y ≡ past_anchors code n y) → (o : Option Label) → anchor_at code x ≡ o → past_anchors code (suc (suc n)) x ≡ past_anchors code (suc n) x
+    by_anchor : ((y : Label) → RowWithin code n y → past_anchors code (suc n) y ≡ past_anchors code n y) → (o : Option Label) → anchor_at code x ≡ o →
+        past_anchors code (suc (suc n)) x ≡ past_anchors code (suc n) x
     by_anchor ih None e = past_none code (suc (suc n)) x e ∙ sym (past_none code (suc n) x e)
     by_anchor ih (Some next) e = past_some code (suc n) x next e ∙ ih next (row_after code n x next e row) ∙ sym (past_some code n x next e)
 
@@ -117,7 +119,8 @@ unfolding past_anchors
 row_past code n zero x row = row
 row_past code n (suc k) x row = by_anchor (λ m y r. row_past code m k y r) n row (anchor_at code x) refl
   where
-    by_anchor : ((m : ℕ) (y : Label) → RowWithin code m y → RowWithin code m (past_anchors code k y)) → (m : ℕ) → RowWithin code m x → (o : Option Label) → anchor_at code x ≡ o → RowWithin code m (past_anchors code (suc k) x)
+    by_anchor : ((m : ℕ) (y : Label) → RowWithin code m y → RowWithin code m (past_anchors code k y)) → (m : ℕ) → RowWithin code m x → (o : Option Label) →
+        anchor_at code x ≡ o → RowWithin code m (past_anchors code (suc k) x)
     by_anchor ih m r None e = subst (RowWithin code m) (sym (past_none code (suc k) x e)) r
     by_anchor ih zero r (Some next) e = absurd (row_zero code x next e r)
     by_anchor ih (suc m) r (Some next) e =
@@ -152,7 +155,8 @@ unfolding past_anchors
 past_within code zero x closed h = h
 past_within code (suc n) x closed h = by_anchor (λ y w. past_within code n y closed w) (anchor_at code x) refl
   where
-    by_anchor : ((y : Label) → y.0 < length code.places → (past_anchors code n y).0 < length code.places) → (o : Option Label) → anchor_at code x ≡ o → (past_anchors code (suc n) x).0 < length code.places
+    by_anchor : ((y : Label) → y.0 < length code.places → (past_anchors code n y).0 < length code.places) → (o : Option Label) → anchor_at code x ≡ o →
+        (past_anchors code (suc n) x).0 < length code.places
     by_anchor ih None e = subst (λ y. y.0 < length code.places) (sym (past_none code (suc n) x e)) h
     by_anchor ih (Some next) e =
         let a = has_anchor code x next e in
@@ -165,7 +169,8 @@ passed_within code x closed h = past_within code 8 x closed h
 
 -- ---- step by step
 
-pub past_step : (code : Code) (i : ℕ) (x next goal : Label) → i < 8 → anchor_at code x ≡ Some next → past_anchors code (8 - i) x ≡ goal → past_anchors code (8 - (i + 1)) next ≡ goal
+pub past_step : (code : Code) (i : ℕ) (x next goal : Label) → i < 8 → anchor_at code x ≡ Some next → past_anchors code (8 - i) x ≡ goal →
+    past_anchors code (8 - (i + 1)) next ≡ goal
 past_step code i x next goal lt e so_far =
     let s : 8 - i ≡ suc (8 - (i + 1)) = omega arith in
     sym (ap (λ m. past_anchors code m x) s ∙ past_some code (8 - (i + 1)) x next e) ∙ so_far

@@ -1,5 +1,6 @@
 -- What the search keeps as it begins and as it finds one label more, and what it has found where all edges are followed.
-use Rattle.std.proofs.Common.{◌≡◌, ℕ, ◌+◌, ◌<◌, Bool, true, false, List, [], ◌∷◌, ◌++◌, length, get_or, replicate, Some, refl, sym, ap, ◌∙◌, subst, ⊎_elim, arith, length-append, length-set}
+use Rattle.std.proofs.Common.{◌≡◌, ℕ, ◌+◌, ◌<◌, Bool, true, false, List, [], ◌∷◌, ◌++◌, length, get_or, replicate, Some, refl, sym, ap, ◌∙◌, subst, ⊎_elim}
+use Rattle.std.proofs.Common.{arith, length-append, length-set}
 use Rattle.std.specs.Prelude.{slice_get, slice_set, slice_index_or, Contains, All}
 use Rattle.std.proofs.lemmas.Option.{same_Some, slice_get-get_or}
 use Rattle.std.proofs.lemmas.List.{length-replicate}
@@ -39,7 +40,8 @@ grows_more found x = λ k y e. get-append_left found (x ∷ []) k y e
 pub grows_contains : (old new : List Label) (x : Label) → Grows old new → Contains old x → Contains new x
 grows_contains old new x grows c = contains-at new c.0 x (grows c.0 x (at-contains old x c))
 
-pub search_more : (code : Code) (kept : List Bool) (found : List Label) (x : Label) → IsSearch code kept found → slice_get kept x.0 ≡ Some false → x.0 < length kept → Reached code x → IsSearch code (slice_set kept x.0 true) (found ++ x ∷ [])
+pub search_more : (code : Code) (kept : List Bool) (found : List Label) (x : Label) → IsSearch code kept found → slice_get kept x.0 ≡ Some false →
+    x.0 < length kept → Reached code x → IsSearch code (slice_set kept x.0 true) (found ++ x ∷ [])
 search_more code kept found x s at within reached = record {
   count = length-set kept x.0 true ∙ s.count;
   number = length-append found (x ∷ []) ∙ ap (λ n. n + 1) s.number ∙ sym (count-set kept x.0 at);
@@ -71,14 +73,16 @@ followed_grows code old new x grows followed = λ place at. led_grows code old n
 pub led_none : (code : Code) (found : List Label) → AreLed code found []
 led_none code found = λ next c. absurd (contains-none next c)
 
-pub led_more : (code : Code) (found : List Label) (x : Label) (nexts : List Label) → Contains found (passed code x) → AreLed code found nexts → AreLed code found (x ∷ nexts)
+pub led_more : (code : Code) (found : List Label) (x : Label) (nexts : List Label) → Contains found (passed code x) → AreLed code found nexts →
+    AreLed code found (x ∷ nexts)
 led_more code found x nexts here led = λ next c. ⊎_elim
     (λ one. subst (λ y. Contains found (passed code y)) (contains-one x next one) here)
     (λ more. led next more)
     (Contains-append_cases (x ∷ []) nexts next c)
 
 -- the first n and one more
-pub followed_more : (code : Code) (old new : List Label) (n : ℕ) (x : Label) → Grows old new → slice_get old n ≡ Some x → n < length old → AreFollowed code old n → IsFollowed code new x → AreFollowed code new (n + 1)
+pub followed_more : (code : Code) (old new : List Label) (n : ℕ) (x : Label) → Grows old new → slice_get old n ≡ Some x → n < length old →
+    AreFollowed code old n → IsFollowed code new x → AreFollowed code new (n + 1)
 followed_more code old new n x grows at within followed here = λ k y lt at'. ⊎_elim
     (λ e. subst (IsFollowed code new) (same_Some x y (sym (grows n x at) ∙ ap (slice_get new) (sym e) ∙ at')) here)
     (λ ne.
@@ -91,10 +95,12 @@ followed_more code old new n x grows at within followed here = λ k y lt at'. �
 
 -- ---- a label that was found
 
-pub found_marked : (code : Code) (kept : List Bool) (found : List Label) (x : Label) (d : Bool) → IsSearch code kept found → x.0 < length kept → get_or kept x.0 d ≡ true → Contains found x
+pub found_marked : (code : Code) (kept : List Bool) (found : List Label) (x : Label) (d : Bool) → IsSearch code kept found → x.0 < length kept →
+    get_or kept x.0 d ≡ true → Contains found x
 found_marked code kept found x d s within e = s.kept_found x (slice_get-get_or kept x.0 d within ∙ ap Some e)
 
-pub reached_edges : (code : Code) (x : Label) (place : Place) → Reached code x → place_at code x ≡ Some place → All (λ next. Reached code (passed code next)) (successors place.instr)
+pub reached_edges : (code : Code) (x : Label) (place : Place) → Reached code x → place_at code x ≡ Some place →
+    All (λ next. Reached code (passed code next)) (successors place.instr)
 reached_edges code x place reached at = λ k d lt.
     Edge x place (slice_index_or (successors place.instr) k d) reached at (Contains-get_or (successors place.instr) k d lt)
 
@@ -105,13 +111,15 @@ reached_within code x closed (Edge from place next reached at c) = passed_within
 -- ---- the end of the search
 
 -- where all edges of what was found are followed, all that is reached was found
-pub all_found : (code : Code) (found : List Label) → Contains found (passed code code.entry) → AreFollowed code found (length found) → (x : Label) → Reached code x → Contains found x
+pub all_found : (code : Code) (found : List Label) → Contains found (passed code code.entry) → AreFollowed code found (length found) → (x : Label) →
+    Reached code x → Contains found x
 all_found code found entry followed x Entry = entry
 all_found code found entry followed x (Edge from place next reached at c) =
     let here = all_found code found entry followed from reached in
     followed here.0 from here.1 (at-contains found from here) place at next c
 
-pub search_ends : (code : Code) (kept : List Bool) (found : List Label) → IsSearch code kept found → Contains found (passed code code.entry) → AreFollowed code found (length found) → AreKept code kept
+pub search_ends : (code : Code) (kept : List Bool) (found : List Label) → IsSearch code kept found → Contains found (passed code code.entry) →
+    AreFollowed code found (length found) → AreKept code kept
 search_ends code kept found s entry followed = record {
   count = s.count;
   reached = λ x. (λ e. s.reached x (s.kept_found x e), λ r. s.found_kept x (all_found code found entry followed x r));

@@ -1,5 +1,6 @@
 -- What holds where nothing is against the guards.
-use Rattle.std.proofs.Common.{◌≡◌, ℕ, ◌+◌, ◌-◌, ◌^◌, ◌<◌, ◌≤◌, min, Bool, true, false, nat_lt, List, [], ◌∷◌, length, get_or, drop, Option, Some, None, refl, sym, ap, ◌∙◌, arith}
+use Rattle.std.proofs.Common.{◌≡◌, ℕ, ◌+◌, ◌-◌, ◌^◌, ◌<◌, ◌≤◌, min, Bool, true, false, nat_lt, List, [], ◌∷◌, length, get_or, drop, Option, Some, None, refl}
+use Rattle.std.proofs.Common.{sym, ap, ◌∙◌, arith}
 use Rattle.std.specs.Prelude.{All}
 use Rattle.std.proofs.lemmas.List.{drop_more}
 use Rattle.std.proofs.Math.ListN.{drop_of_length-le}
@@ -26,26 +27,33 @@ no_offence (Some skipped) others e = absurd (none-some skipped (sym e))
 
 -- ---- registers
 
-pub offence_here : (regs : ℕ) (guard : Guard) (guards : List Guard) (skipped : Skipped) → guard_offence regs guard ≡ Some skipped → register_offence regs (guard ∷ guards) ≡ Some skipped
+pub offence_here : (regs : ℕ) (guard : Guard) (guards : List Guard) (skipped : Skipped) → guard_offence regs guard ≡ Some skipped →
+    register_offence regs (guard ∷ guards) ≡ Some skipped
 unfolding register_offence or_next
 offence_here regs guard guards skipped e = ap (λ o. or_next o (register_offence regs guards)) e
 
-pub offence_later : (regs : ℕ) (guard : Guard) (guards : List Guard) → guard_offence regs guard ≡ None → register_offence regs (guard ∷ guards) ≡ register_offence regs guards
+pub offence_later : (regs : ℕ) (guard : Guard) (guards : List Guard) → guard_offence regs guard ≡ None →
+    register_offence regs (guard ∷ guards) ≡ register_offence regs guards
 unfolding register_offence or_next
 offence_later regs guard guards e = ap (λ o. or_next o (register_offence regs guards)) e
 
 -- at a guard of the list, where none is missing before it
-pub offence_found : (regs : ℕ) (guards : List Guard) (i : ℕ) (guard : Guard) (skipped : Skipped) → i < length guards → register_offence regs (drop i guards) ≡ register_offence regs guards → guard_offence regs (get_or guards i guard) ≡ Some skipped → Some skipped ≡ register_offence regs guards
+pub offence_found : (regs : ℕ) (guards : List Guard) (i : ℕ) (guard : Guard) (skipped : Skipped) → i < length guards →
+    register_offence regs (drop i guards) ≡ register_offence regs guards → guard_offence regs (get_or guards i guard) ≡ Some skipped →
+    Some skipped ≡ register_offence regs guards
 offence_found regs guards i guard skipped h so_far e =
     sym (offence_here regs (get_or guards i guard) (drop (i + 1) guards) skipped e)
     ∙ ap (register_offence regs) (sym (drop_more guards i guard h)) ∙ so_far
 
-pub offence_past : (regs : ℕ) (guards : List Guard) (i : ℕ) (guard : Guard) → i < length guards → register_offence regs (drop i guards) ≡ register_offence regs guards → guard_offence regs (get_or guards i guard) ≡ None → register_offence regs (drop (i + 1) guards) ≡ register_offence regs guards
+pub offence_past : (regs : ℕ) (guards : List Guard) (i : ℕ) (guard : Guard) → i < length guards →
+    register_offence regs (drop i guards) ≡ register_offence regs guards → guard_offence regs (get_or guards i guard) ≡ None →
+    register_offence regs (drop (i + 1) guards) ≡ register_offence regs guards
 offence_past regs guards i guard h so_far e =
     sym (offence_later regs (get_or guards i guard) (drop (i + 1) guards) e)
     ∙ ap (register_offence regs) (sym (drop_more guards i guard h)) ∙ so_far
 
-pub offence_none : (regs : ℕ) (guards : List Guard) (i : ℕ) → length guards ≤ i → register_offence regs (drop i guards) ≡ register_offence regs guards → None ≡ register_offence regs guards
+pub offence_none : (regs : ℕ) (guards : List Guard) (i : ℕ) → length guards ≤ i → register_offence regs (drop i guards) ≡ register_offence regs guards →
+    None ≡ register_offence regs guards
 unfolding register_offence
 offence_none regs guards i h so_far = sym (ap (register_offence regs) (drop_of_length-le guards h)) ∙ so_far
 

@@ -1,5 +1,6 @@
 -- Rows of Assumes and Anchors, as they are counted.
-use Rattle.std.proofs.Common.{◌≡◌, ℕ, zero, suc, ◌+◌, ◌-◌, ◌<◌, ◌≤◌, Bool, true, false, nat_eq, max, Option, Some, None, refl, sym, ap, ap₂, ◌∙◌, subst, ⊎_elim, arith}
+use Rattle.std.proofs.Common.{◌≡◌, ℕ, zero, suc, ◌+◌, ◌-◌, ◌<◌, ◌≤◌, Bool, true, false, nat_eq, max, Option, Some, None, refl, sym, ap, ap₂, ◌∙◌, subst, ⊎_elim}
+use Rattle.std.proofs.Common.{arith}
 use Rattle.std.specs.Prelude.{unwrap_or}
 use Rattle.std.proofs.lemmas.Bool.{cases_eq}
 use Rattle.cj_ir.specs.declared.language.Label.{Label}
@@ -56,24 +57,31 @@ steps_end code label x e = ap (λ b. here_or b None) e
 pub steps_none : (code : Code) (label : Label) (n : ℕ) (x : Label) → nat_eq x.0 label.0 ≡ false → guard_at code x ≡ None → steps_to code label n x ≡ None
 unfolding steps_to here_or step_on
 steps_none code label zero x e g = ap (λ b. here_or b None) e
-steps_none code label (suc n) x e g = ap (λ b. here_or b (step_on (guard_at code x) (λ y. steps_to code label n y))) e ∙ ap (λ o. step_on o (λ y. steps_to code label n y)) g
+steps_none code label (suc n) x e g = ap (λ b. here_or b (step_on (guard_at code x) (λ y. steps_to code label n y))) e
+    ∙ ap (λ o. step_on o (λ y. steps_to code label n y)) g
 
-pub steps_some : (code : Code) (label : Label) (n : ℕ) (x next : Label) → nat_eq x.0 label.0 ≡ false → guard_at code x ≡ Some next → steps_to code label (suc n) x ≡ one_step (steps_to code label n next)
+pub steps_some : (code : Code) (label : Label) (n : ℕ) (x next : Label) → nat_eq x.0 label.0 ≡ false → guard_at code x ≡ Some next →
+    steps_to code label (suc n) x ≡ one_step (steps_to code label n next)
 unfolding steps_to here_or step_on
-steps_some code label n x next e g = ap (λ b. here_or b (step_on (guard_at code x) (λ y. steps_to code label n y))) e ∙ ap (λ o. step_on o (λ y. steps_to code label n y)) g
+steps_some code label n x next e g = ap (λ b. here_or b (step_on (guard_at code x) (λ y. steps_to code label n y))) e
+    ∙ ap (λ o. step_on o (λ y. steps_to code label n y)) g
 
 -- ---- in the loops
 
-pub after_step : (code : Code) (i all : ℕ) (x next : Label) → i < 8 → guard_at code x ≡ Some next → i + guards_after code (8 - i) x ≡ all → (i + 1) + guards_after code (8 - (i + 1)) next ≡ all
+pub after_step : (code : Code) (i all : ℕ) (x next : Label) → i < 8 → guard_at code x ≡ Some next → i + guards_after code (8 - i) x ≡ all →
+    (i + 1) + guards_after code (8 - (i + 1)) next ≡ all
 after_step code i all x next lt e so_far =
     let s : 8 - i ≡ suc (8 - (i + 1)) = omega arith in
-    let h : guards_after code (8 - i) x ≡ suc (guards_after code (8 - (i + 1)) next) = ap (λ n. guards_after code n x) s ∙ after_some code (8 - (i + 1)) x next e in
+    let h : guards_after code (8 - i) x ≡ suc (guards_after code (8 - (i + 1)) next) = ap (λ n. guards_after code n x) s
+    ∙ after_some code (8 - (i + 1)) x next e in
     omega arith
 
-pub steps_step : (code : Code) (label : Label) (i : ℕ) (all : Option ℕ) (x next : Label) → i < 8 → nat_eq x.0 label.0 ≡ false → guard_at code x ≡ Some next → further i (steps_to code label (8 - i) x) ≡ all → further (i + 1) (steps_to code label (8 - (i + 1)) next) ≡ all
+pub steps_step : (code : Code) (label : Label) (i : ℕ) (all : Option ℕ) (x next : Label) → i < 8 → nat_eq x.0 label.0 ≡ false → guard_at code x ≡ Some next →
+    further i (steps_to code label (8 - i) x) ≡ all → further (i + 1) (steps_to code label (8 - (i + 1)) next) ≡ all
 steps_step code label i all x next lt e g so_far =
     let s : 8 - i ≡ suc (8 - (i + 1)) = omega arith in
-    sym (ap (λ n. further i (steps_to code label n x)) s ∙ ap (further i) (steps_some code label (8 - (i + 1)) x next e g) ∙ further_step i (steps_to code label (8 - (i + 1)) next)) ∙ so_far
+    sym (ap (λ n. further i (steps_to code label n x)) s ∙ ap (further i) (steps_some code label (8 - (i + 1)) x next e g)
+    ∙ further_step i (steps_to code label (8 - (i + 1)) next)) ∙ so_far
 
 pub steps_few : (code : Code) (label : Label) (n : ℕ) (x : Label) → or_none (steps_to code label n x) ≤ n
 unfolding or_none steps_to here_or step_on one_step
@@ -88,7 +96,8 @@ steps_few code label (suc n) x = by_test (λ y. steps_few code label n y) (nat_e
     by_steps None h = omega arith
     by_steps (Some k) h = omega arith
 
-    by_test : ((y : Label) → or_none (steps_to code label n y) ≤ n) → (b : Bool) (o : Option Label) → or_none (here_or b (step_on o (λ y. steps_to code label n y))) ≤ suc n
+    by_test : ((y : Label) → or_none (steps_to code label n y) ≤ n) → (b : Bool) (o : Option Label) →
+        or_none (here_or b (step_on o (λ y. steps_to code label n y))) ≤ suc n
     by_test ih true o = omega arith
     by_test ih false None = omega arith
     by_test ih false (Some next) = by_steps (steps_to code label n next) (ih next)
@@ -100,7 +109,8 @@ further_same (Some n) = ap Some (omega arith)
 
 -- ---- the greatest
 
-pub greatest_more : (f : Label → ℕ) (n most steps new : ℕ) (x : Label) → most ≡ greatest f n → x.0 ≡ n → steps ≡ f x → new ≡ max most steps → new ≡ greatest f (n + 1)
+pub greatest_more : (f : Label → ℕ) (n most steps new : ℕ) (x : Label) → most ≡ greatest f n → x.0 ≡ n → steps ≡ f x → new ≡ max most steps →
+    new ≡ greatest f (n + 1)
 unfolding greatest
 greatest_more f n most steps new x m e s is =
     let one : n + 1 ≡ suc n = omega arith in

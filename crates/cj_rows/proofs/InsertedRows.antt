@@ -48,7 +48,8 @@ module _ (code code' : Code) (l a : Label) (r : Label → Label) (g : HasGuardsO
       by_guard (Some next) e = absurd (row_ends code x next e row)
   row_apart (suc n) x ne never row = by_guard (λ y d w s. row_apart n y d w s) (guard_at code x) refl
     where
-      by_guard : ((y : Label) → y ≢ a → ((k : ℕ) → Leads code l (suc k) y → ⊥) → RowWithin code n y → RowWithin code' n y) → (o : Option Label) → guard_at code x ≡ o → RowWithin code' (suc n) x
+      by_guard : ((y : Label) → y ≢ a → ((k : ℕ) → Leads code l (suc k) y → ⊥) → RowWithin code n y → RowWithin code' n y) → (o : Option Label) →
+          guard_at code x ≡ o → RowWithin code' (suc n) x
       by_guard ih None e = no_row code' (suc n) x (g.old x ne ∙ ap (option_map r) e)
       by_guard ih (Some next) e =
           let other : next ≢ l = λ is. never 0 (next, e, is) in
@@ -80,7 +81,8 @@ module _ (code code' : Code) (l a : Label) (r : Label → Label) (g : HasGuardsO
   passes_from (suc n) x h = ⊎_elim (λ e. inl e)
       (λ p. ⊎_elim (λ e. inl e) (λ ne. inr (from (λ y q. passes_from n y q) ne p.0 p.1 p.2 p.3 p.4)) (label_cases x a)) h
     where
-      from : ((y : Label) → RowPasses code' n y a → (y ≡ a) ⊎ ((k : ℕ) × Leads code l (suc k) y)) → x ≢ a → (p : Place) (next' : Label) → place_at code' x ≡ Some p → guard_next p.instr ≡ Some next' → RowPasses code' n next' a → (k : ℕ) × Leads code l (suc k) x
+      from : ((y : Label) → RowPasses code' n y a → (y ≡ a) ⊎ ((k : ℕ) × Leads code l (suc k) y)) → x ≢ a → (p : Place) (next' : Label) →
+          place_at code' x ≡ Some p → guard_next p.instr ≡ Some next' → RowPasses code' n next' a → (k : ℕ) × Leads code l (suc k) x
       from ih ne p next' at gn rest =
           let w = was_guard x next' ne (guard_place code' x p at ∙ gn) in
           ⊎_elim
@@ -93,7 +95,8 @@ module _ (code code' : Code) (l a : Label) (r : Label → Label) (g : HasGuardsO
           (ih next' rest))
           (label_cases w.next l)
 
-  pub rows_through : ((x next : Label) → guard_at code x ≡ Some next → x.0 < length code.places) → fresh_row code l ≤ 8 → (x : Label) → RowPasses code' 8 x a → RowWithin code' 8 x
+  pub rows_through : ((x next : Label) → guard_at code x ≡ Some next → x.0 < length code.places) → fresh_row code l ≤ 8 → (x : Label) → RowPasses code' 8 x a →
+      RowWithin code' 8 x
   unfolding fresh_row m
   rows_through within short x passes =
       let all : guards_before code l + 1 + m ≤ 8 = short in

@@ -16,7 +16,8 @@ two_of n x y all = (All-head (λ (z : Label). z.0 < n) x (y ∷ []) all, All-hea
 one_of : (n : ℕ) (x : Label) → All (λ (z : Label). z.0 < n) (x ∷ []) → x.0 < n
 one_of n x all = All-head (λ (z : Label). z.0 < n) x [] all
 
-relabel_alike : (f g : Label → Label) (n : ℕ) → ((x : Label) → x.0 < n → f x ≡ g x) → (i : VInstr) → All (λ (y : Label). y.0 < n) (successors i) → relabel f i ≡ relabel g i
+relabel_alike : (f g : Label → Label) (n : ℕ) → ((x : Label) → x.0 < n → f x ≡ g x) → (i : VInstr) → All (λ (y : Label). y.0 < n) (successors i) →
+    relabel f i ≡ relabel g i
 unfolding relabel successors
 relabel_alike f g n same (Nop x) h = ap Nop (same x (one_of n x h))
 relabel_alike f g n same (Op d e x) h = ap (Op d e) (same x (one_of n x h))
@@ -34,7 +35,8 @@ relabel_alike f g n same (Anchor b t x) h = ap (Anchor b t) (same x (one_of n x 
 abbrev pub HasEdgesWithin : ℕ → Place → Type 0
 HasEdgesWithin n place = All (λ (next : Label). next.0 < n) (successors place.instr)
 
-pub led_alike : (f g : Label → Label) (n : ℕ) → ((x : Label) → x.0 < n → f x ≡ g x) → (places : List Place) → All (HasEdgesWithin n) places → map (led_place f) places ≡ map (led_place g) places
+pub led_alike : (f g : Label → Label) (n : ℕ) → ((x : Label) → x.0 < n → f x ≡ g x) → (places : List Place) → All (HasEdgesWithin n) places →
+    map (led_place f) places ≡ map (led_place g) places
 unfolding led_place
 led_alike f g n same [] all = refl
 led_alike f g n same (p ∷ places) all =

@@ -4,7 +4,8 @@ use Rattle.std.specs.Prelude.{slice_get}
 use Rattle.std.proofs.lemmas.Option.{none-some, slice_get-get_or}
 use Rattle.cj_base.proofs.Lists.{reverse_last}
 
-pub popped : {X : Type 0} (xs ys : List X) (o : Option X) (x : X) → o ≡ slice_get xs (length xs - 1) → o ≡ Some x → ys ≡ take (length xs - 1) xs → reverse xs ≡ x ∷ reverse ys
+pub popped : {X : Type 0} (xs ys : List X) (o : Option X) (x : X) → o ≡ slice_get xs (length xs - 1) → o ≡ Some x → ys ≡ take (length xs - 1) xs →
+    reverse xs ≡ x ∷ reverse ys
 popped xs ys o x item is rest = reverse_last xs x (sym item ∙ is) ∙ ap (λ zs. x ∷ reverse zs) (sym rest)
 
 pub popped_none : {X : Type 0} (xs : List X) (o : Option X) → o ≡ slice_get xs (length xs - 1) → o ≡ None → reverse xs ≡ []

@@ -67,10 +67,12 @@ exact_row code zero x row = by_guard (guard_at code x) refl
     by_guard (Some next) e = absurd (row_ends code x next e row)
 exact_row code (suc n) x row = by_guard (λ y r. exact_row code n y r) (guard_at code x) refl
   where
-    by_guard : ((y : Label) → RowWithin code n y → RowWithin code (guards_after code n y) y) → (o : Option Label) → guard_at code x ≡ o → RowWithin code (guards_after code (suc n) x) x
+    by_guard : ((y : Label) → RowWithin code n y → RowWithin code (guards_after code n y) y) → (o : Option Label) → guard_at code x ≡ o →
+        RowWithin code (guards_after code (suc n) x) x
     by_guard ih None e = no_row code (guards_after code (suc n) x) x e
     by_guard ih (Some next) e =
-        subst (λ k. RowWithin code k x) (sym (after_some code n x next e)) (one_row code (guards_after code n next) x next e (ih next (row_next code n x next e row)))
+        subst (λ k. RowWithin code k x) (sym (after_some code n x next e))
+        (one_row code (guards_after code n next) x next e (ih next (row_next code n x next e row)))
 
 -- ---- labels that lead to one
 
@@ -107,10 +109,12 @@ leads_steps code l (suc k) (suc n) x row h leads =
     steps_some code l n x leads.0 (ne_eqb x.0 l.0 differs) leads.1 ∙ ap one_step (leads_steps code l k n leads.0 row (omega arith) leads.2)
 
 -- what leads to a label is counted
-pub leads_before : (code : Code) (l : Label) → ((x : Label) → RowWithin code 8 x) → (k : ℕ) (x : Label) → x.0 < length code.places → Leads code l k x → k ≤ guards_before code l
+pub leads_before : (code : Code) (l : Label) → ((x : Label) → RowWithin code 8 x) → (k : ℕ) (x : Label) → x.0 < length code.places → Leads code l k x →
+    k ≤ guards_before code l
 unfolding guards_before or_none
 leads_before code l rows k x within leads =
     let few : k ≤ 8 = (leads_row code l k 8 x leads (rows x)).0 in
     let is : or_none (steps_to code l 8 x) ≡ k = ap or_none (leads_steps code l k 8 x (rows l) few leads) in
-    let above : or_none (steps_to code l 8 x) ≤ guards_before code l = greatest_above (λ (from : Label). or_none (steps_to code l 8 from)) (length code.places) x within in
+    let above : or_none (steps_to code l 8 x)
+    ≤ guards_before code l = greatest_above (λ (from : Label). or_none (steps_to code l 8 from)) (length code.places) x within in
     omega arith

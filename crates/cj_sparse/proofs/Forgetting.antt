@@ -83,10 +83,12 @@ folded-same : (k : Knowledge) (r : ℕ) (o : Operand) → is_register r o ≡ fa
 unfolding folded_operand
 folded-same k r o no_ = ap (constant_or o) (value-same k r o no_)
 
-one-same : (k : Knowledge) (r : ℕ) (f : Operand → Expr) (a : Operand) → is_register r a || false ≡ false → f (folded_operand (without r k) a) ≡ f (folded_operand k a)
+one-same : (k : Knowledge) (r : ℕ) (f : Operand → Expr) (a : Operand) → is_register r a || false ≡ false →
+    f (folded_operand (without r k) a) ≡ f (folded_operand k a)
 one-same k r f a no_ = ap f (folded-same k r a (or_parts (is_register r a) false no_).0)
 
-two-same : (k : Knowledge) (r : ℕ) (f : Operand → Operand → Expr) (a b : Operand) → is_register r a || (is_register r b || false) ≡ false → f (folded_operand (without r k) a) (folded_operand (without r k) b) ≡ f (folded_operand k a) (folded_operand k b)
+two-same : (k : Knowledge) (r : ℕ) (f : Operand → Operand → Expr) (a b : Operand) → is_register r a || (is_register r b || false) ≡ false →
+    f (folded_operand (without r k) a) (folded_operand (without r k) b) ≡ f (folded_operand k a) (folded_operand k b)
 two-same k r f a b no_ =
     let h = or_parts (is_register r a) (is_register r b || false) no_ in
     ap₂ f (folded-same k r a h.0) (folded-same k r b (or_parts (is_register r b) false h.1).0)
@@ -121,7 +123,8 @@ op-assigns k r dest Unknown same = ap Some (assigned k r dest.0 None None same)
 op-assigns k r dest (Value v) same = ap Some (assigned k r dest.0 None (Some v) same)
 op-assigns k r dest ZeroDivisor same = refl
 
-move-same : (k : Knowledge) (r : ℕ) (pairs : List Pair) (now : Knowledge) → list_any (λ pair. is_register r pair.value) pairs ≡ false → after_move (without r k) pairs now ≡ after_move k pairs now
+move-same : (k : Knowledge) (r : ℕ) (pairs : List Pair) (now : Knowledge) → list_any (λ pair. is_register r pair.value) pairs ≡ false →
+    after_move (without r k) pairs now ≡ after_move k pairs now
 unfolding after_move
 move-same k r [] now no_ = refl
 move-same k r (pair ∷ pairs) now no_ =
@@ -129,17 +132,20 @@ move-same k r (pair ∷ pairs) now no_ =
     ap (λ v. after_move (without r k) pairs (with_known now pair.dest.0 v)) (value-same k r pair.value h.0)
     ∙ move-same k r pairs (with_known now pair.dest.0 (known_value k pair.value)) h.1
 
-move-forgets : (k : Knowledge) (r : ℕ) (pairs : List Pair) (now : Knowledge) → list_any (λ pair. is_register r pair.value) pairs ≡ false → list_any (λ pair. pair.dest.0 == r) pairs ≡ false → after_move (without r k) pairs (without r now) ≡ without r (after_move k pairs now)
+move-forgets : (k : Knowledge) (r : ℕ) (pairs : List Pair) (now : Knowledge) → list_any (λ pair. is_register r pair.value) pairs ≡ false →
+    list_any (λ pair. pair.dest.0 == r) pairs ≡ false → after_move (without r k) pairs (without r now) ≡ without r (after_move k pairs now)
 unfolding after_move
 move-forgets k r [] now no_ none = refl
 move-forgets k r (pair ∷ pairs) now no_ none =
     let h = or_parts (is_register r pair.value) (list_any (λ (p : Pair). is_register r p.value) pairs) no_ in
     let d = or_parts (pair.dest.0 == r) (list_any (λ (p : Pair). p.dest.0 == r) pairs) none in
-    ap (after_move (without r k) pairs) (ap (with_known (without r now) pair.dest.0) (value-same k r pair.value h.0) ∙ writes-commute now r pair.dest.0 None (known_value k pair.value) (apart-from pair.dest.0 r d.0))
+    ap (after_move (without r k) pairs) (ap (with_known (without r now) pair.dest.0) (value-same k r pair.value h.0)
+    ∙ writes-commute now r pair.dest.0 None (known_value k pair.value) (apart-from pair.dest.0 r d.0))
     ∙ move-forgets k r pairs (with_known now pair.dest.0 (known_value k pair.value)) h.1 d.1
 
 -- where a pair assigns the register, what was known of it is not left
-move-assigns : (k : Knowledge) (r : ℕ) (pairs : List Pair) (now : Knowledge) → list_any (λ pair. is_register r pair.value) pairs ≡ false → list_any (λ pair. pair.dest.0 == r) pairs ≡ true → after_move (without r k) pairs (without r now) ≡ after_move k pairs now
+move-assigns : (k : Knowledge) (r : ℕ) (pairs : List Pair) (now : Knowledge) → list_any (λ pair. is_register r pair.value) pairs ≡ false →
+    list_any (λ pair. pair.dest.0 == r) pairs ≡ true → after_move (without r k) pairs (without r now) ≡ after_move k pairs now
 unfolding after_move
 move-assigns k r [] now no_ some = absurd (cc)
 move-assigns k r (pair ∷ pairs) now no_ some =
@@ -153,7 +159,8 @@ move-assigns k r (pair ∷ pairs) now no_ some =
     (λ apart.
     ap (λ v. after_move (without r k) pairs (with_known (without r now) pair.dest.0 v)) value
     ∙ ap (after_move (without r k) pairs) (writes-commute now r pair.dest.0 None (known_value k pair.value) apart)
-    ∙ move-assigns k r pairs (with_known now pair.dest.0 (known_value k pair.value)) h.1 (or-second (pair.dest.0 == r) (list_any (λ (p : Pair). p.dest.0 == r) pairs) (ne_eqb pair.dest.0 r apart) some))
+    ∙ move-assigns k r pairs (with_known now pair.dest.0 (known_value k pair.value)) h.1
+    (or-second (pair.dest.0 == r) (list_any (λ (p : Pair). p.dest.0 == r) pairs) (ne_eqb pair.dest.0 r apart) some))
     (cases_eq pair.dest.0 r)
   where
     or-second : (a b : Bool) → a ≡ false → (a || b) ≡ true → b ≡ true
@@ -170,19 +177,22 @@ unfolding along
 along-forgets k r None a b to = refl
 along-forgets k r (Some v) a b to = if-forgets ((branch v a b).0 == to.0) k r
 
-with_value-forgets : (k : Knowledge) (r : ℕ) (reg : Reg) (v : ℤ) (o : Option ℤ) → reg.0 ≢ r → with_value (without r k) reg v o ≡ option_map (without r) (with_value k reg v o)
+with_value-forgets : (k : Knowledge) (r : ℕ) (reg : Reg) (v : ℤ) (o : Option ℤ) → reg.0 ≢ r →
+    with_value (without r k) reg v o ≡ option_map (without r) (with_value k reg v o)
 unfolding with_value
 with_value-forgets k r reg v None apart = ap Some (writes-commute k r reg.0 None (Some v) apart)
 with_value-forgets k r reg v (Some w) apart = if-forgets (int_eq w v) k r
 
-guard-forgets : (k : Knowledge) (r : ℕ) (guard : Guard) → is_guarded r guard ≡ false → with_guard guard (without r k) ≡ option_map (without r) (with_guard guard k)
+guard-forgets : (k : Knowledge) (r : ℕ) (guard : Guard) → is_guarded r guard ≡ false →
+    with_guard guard (without r k) ≡ option_map (without r) (with_guard guard k)
 unfolding with_guard is_guarded
 guard-forgets k r (Is reg v) no_ =
     let apart : reg.0 ≢ r = apart-from reg.0 r no_ in
     ap (with_value (without r k) reg v) (at-other k r reg.0 None apart) ∙ with_value-forgets k r reg v (k reg.0) apart
 guard-forgets k r Never no_ = refl
 
-guards-forget : (o : Option Knowledge) (r : ℕ) (guards : List Guard) → list_any (is_guarded r) guards ≡ false → with_guards guards (option_map (without r) o) ≡ option_map (without r) (with_guards guards o)
+guards-forget : (o : Option Knowledge) (r : ℕ) (guards : List Guard) → list_any (is_guarded r) guards ≡ false →
+    with_guards guards (option_map (without r) o) ≡ option_map (without r) (with_guards guards o)
 unfolding with_guards
 guards-forget o r [] no_ = refl
 guards-forget None r (guard ∷ guards) no_ =
@@ -194,7 +204,8 @@ guards-forget (Some k) r (guard ∷ guards) no_ =
 -- ---- instructions
 
 -- a register that is neither read nor assigned: all else leaves as before
-pub leaves-forgets : (k : Knowledge) (r : ℕ) (instr : VInstr) (to : Label) → reads instr r ≡ false → assigns instr r ≡ false → leaves (without r k) instr to ≡ option_map (without r) (leaves k instr to)
+pub leaves-forgets : (k : Knowledge) (r : ℕ) (instr : VInstr) (to : Label) → reads instr r ≡ false → assigns instr r ≡ false →
+    leaves (without r k) instr to ≡ option_map (without r) (leaves k instr to)
 unfolding leaves reads assigns
 leaves-forgets k r (Nop next) to no_ none = refl
 leaves-forgets k r (Op dest e next) to no_ none =
@@ -219,7 +230,8 @@ equal-from a r yes_ = ⊎_elim (λ same. same) (λ apart. absurd (false-true (sy
     false-true e = cc
 
 -- a register that is assigned and not read: all leaves as before
-pub leaves-assigned : (k : Knowledge) (r : ℕ) (instr : VInstr) (to : Label) → reads instr r ≡ false → assigns instr r ≡ true → leaves (without r k) instr to ≡ leaves k instr to
+pub leaves-assigned : (k : Knowledge) (r : ℕ) (instr : VInstr) (to : Label) → reads instr r ≡ false → assigns instr r ≡ true →
+    leaves (without r k) instr to ≡ leaves k instr to
 unfolding leaves reads assigns
 leaves-assigned k r (Nop next) to no_ some = absurd (cc)
 leaves-assigned k r (Op dest e next) to no_ some =

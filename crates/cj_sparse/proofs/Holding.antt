@@ -1,5 +1,6 @@
 -- Guards that hold one after the other.
-use Rattle.std.proofs.Common.{◌≡◌, ℕ, ◌+◌, ◌<◌, ◌≤◌, ◌==◌, Bool, true, false, List, [], ◌∷◌, ◌++◌, length, take, drop, get_or, Option, Some, None, refl, sym, ap, ◌∙◌, ⊎_elim, add-one}
+use Rattle.std.proofs.Common.{◌≡◌, ℕ, ◌+◌, ◌<◌, ◌≤◌, ◌==◌, Bool, true, false, List, [], ◌∷◌, ◌++◌, length, take, drop, get_or, Option, Some, None, refl, sym}
+use Rattle.std.proofs.Common.{ap, ◌∙◌, ⊎_elim, add-one}
 use Rattle.std.specs.Prelude.{ℤ, if◌then◌else◌}
 use Rattle.std.specs.Option.{is_some}
 use Rattle.std.specs.Ordering.{int_eq}
@@ -66,7 +67,8 @@ same-asked now reg v w r some = ⊎_elim
 abbrev pub Holds : Knowledge → Guard → Type 0
 Holds now guard = (next : Knowledge) × (with_guard guard now ≡ Some next) × ((r : ℕ) → next r ≡ or_else (now r) (asked_by r guard))
 
-value-holds : (now : Knowledge) (reg : Reg) (v : ℤ) (o : Option ℤ) → now reg.0 ≡ o → fits v o ≡ true → (next : Knowledge) × (with_value now reg v o ≡ Some next) × ((r : ℕ) → next r ≡ or_else (now r) (asked_by r (Is reg v)))
+value-holds : (now : Knowledge) (reg : Reg) (v : ℤ) (o : Option ℤ) → now reg.0 ≡ o → fits v o ≡ true →
+    (next : Knowledge) × (with_value now reg v o ≡ Some next) × ((r : ℕ) → next r ≡ or_else (now r) (asked_by r (Is reg v)))
 unfolding with_value fits
 value-holds now reg v None e yes_ = (with_known now reg.0 (Some v), refl, λ r. with-asked now reg v r e)
 value-holds now reg v (Some w) e yes_ = (now, cond-true (int_eq w v) (Some now) None yes_, λ r. same-asked now reg v w r e)
@@ -81,7 +83,8 @@ unfolding may_follow with_guard
 guard-holds k now before (Is reg v) after yes_ = value-holds now reg v (now reg.0) refl (ap (fits v) (after reg.0) ∙ yes_)
 guard-holds k now before Never after yes_ = absurd (cc)
 
-guard-fails-after : (k now : Knowledge) (before : List Guard) (guard : Guard) → IsAfter k before now → may_follow k before guard ≡ false → with_guard guard now ≡ None
+guard-fails-after : (k now : Knowledge) (before : List Guard) (guard : Guard) → IsAfter k before now → may_follow k before guard ≡ false →
+    with_guard guard now ≡ None
 unfolding may_follow with_guard
 guard-fails-after k now before (Is reg v) after no_ = value-fails now reg v (now reg.0) (ap (fits v) (after reg.0) ∙ no_)
 guard-fails-after k now before Never after no_ = refl
@@ -96,11 +99,13 @@ pub held-none : (k : Knowledge) (guards : List Guard) → IsHeld k guards 0
 unfolding asked or_else
 held-none k guards = (k, λ r. sym (else-none (k r)), refl)
 
-pub held-more : (k : Knowledge) (guards before : List Guard) (i : ℕ) (d : Guard) (holds : Bool) → i < length guards → before ≡ take i guards → holds ≡ may_follow k before (get_or guards i d) → holds ≡ true → IsHeld k guards i → IsHeld k guards (i + 1)
+pub held-more : (k : Knowledge) (guards before : List Guard) (i : ℕ) (d : Guard) (holds : Bool) → i < length guards → before ≡ take i guards →
+    holds ≡ may_follow k before (get_or guards i d) → holds ≡ true → IsHeld k guards i → IsHeld k guards (i + 1)
 unfolding asked with_guards
 held-more k guards before i d holds h same is yes_ held =
     let guard : Guard = get_or guards i d in
-    let step : Holds held.0 guard = guard-holds k held.0 (take i guards) guard held.1 (ap (λ (gs : List Guard). may_follow k gs guard) (sym same) ∙ sym is ∙ yes_) in
+    let step : Holds held.0 guard = guard-holds k held.0 (take i guards) guard held.1 (ap (λ (gs : List Guard). may_follow k gs guard) (sym same) ∙ sym is
+    ∙ yes_) in
     let longer : take (i + 1) guards ≡ take i guards ++ guard ∷ [] = ap (λ n. take n guards) (add-one i) ∙ take-suc guards i d h in (
       step.0,
       (λ r.
@@ -113,7 +118,8 @@ held-more k guards before i d holds h same is yes_ held =
       ap (with_guards (drop (i + 1) guards)) (sym step.1) ∙ sym (ap (λ (gs : List Guard). with_guards gs (Some held.0)) (drop-at guards i d h)) ∙ held.2,
     )
 
-pub held-fails : (k : Knowledge) (guards before : List Guard) (i : ℕ) (d : Guard) (holds : Bool) → i < length guards → before ≡ take i guards → holds ≡ may_follow k before (get_or guards i d) → holds ≡ false → IsHeld k guards i → false ≡ is_some (with_guards guards (Some k))
+pub held-fails : (k : Knowledge) (guards before : List Guard) (i : ℕ) (d : Guard) (holds : Bool) → i < length guards → before ≡ take i guards →
+    holds ≡ may_follow k before (get_or guards i d) → holds ≡ false → IsHeld k guards i → false ≡ is_some (with_guards guards (Some k))
 held-fails k guards before i d holds h same is no_ held =
     let guard : Guard = get_or guards i d in
     let none = guard-fails-after k held.0 (take i guards) guard held.1 (ap (λ (gs : List Guard). may_follow k gs guard) (sym same) ∙ sym is ∙ no_) in
@@ -124,7 +130,8 @@ held-all k guards i h held = ap is_some (guards-all guards i (Some held.0) (with
 
 -- ---- what is asked
 
-pub asked-more : (guards : List Guard) (i : ℕ) (d : Guard) (r : ℕ) (all found : Option ℤ) (some : Bool) → i < length guards → found ≡ asked_by r (get_or guards i d) → some ≡ is_some found → some ≡ false → asked (drop i guards) r ≡ all → asked (drop (i + 1) guards) r ≡ all
+pub asked-more : (guards : List Guard) (i : ℕ) (d : Guard) (r : ℕ) (all found : Option ℤ) (some : Bool) → i < length guards →
+    found ≡ asked_by r (get_or guards i d) → some ≡ is_some found → some ≡ false → asked (drop i guards) r ≡ all → asked (drop (i + 1) guards) r ≡ all
 unfolding asked or_else
 asked-more guards i d r all (Some v) some h is answer no_ left = absurd (cc)
 asked-more guards i d r all None some h is answer no_ left =
@@ -132,7 +139,8 @@ asked-more guards i d r all None some h is answer no_ left =
     ∙ sym (ap (λ (gs : List Guard). asked gs r) (drop-at guards i d h))
     ∙ left
 
-pub asked-here : (guards : List Guard) (i : ℕ) (d : Guard) (r : ℕ) (all found : Option ℤ) (some : Bool) → i < length guards → found ≡ asked_by r (get_or guards i d) → some ≡ is_some found → some ≡ true → asked (drop i guards) r ≡ all → found ≡ all
+pub asked-here : (guards : List Guard) (i : ℕ) (d : Guard) (r : ℕ) (all found : Option ℤ) (some : Bool) → i < length guards →
+    found ≡ asked_by r (get_or guards i d) → some ≡ is_some found → some ≡ true → asked (drop i guards) r ≡ all → found ≡ all
 unfolding asked or_else
 asked-here guards i d r all None some h is answer yes_ left = absurd (cc)
 asked-here guards i d r all (Some v) some h is answer yes_ left =

@@ -1,5 +1,6 @@
 -- A register's value that arrives at a label.
-use Rattle.std.proofs.Common.{◌≡◌, ℕ, ◌+◌, ◌<◌, Bool, true, false, cond, List, [], ◌∷◌, ◌++◌, length, Option, Some, None, refl, sym, ap, ◌∙◌, subst, inl, inr, ⊎_elim, arith, length-set, get_or}
+use Rattle.std.proofs.Common.{◌≡◌, ℕ, ◌+◌, ◌<◌, Bool, true, false, cond, List, [], ◌∷◌, ◌++◌, length, Option, Some, None, refl, sym, ap, ◌∙◌, subst, inl, inr}
+use Rattle.std.proofs.Common.{⊎_elim, arith, length-set, get_or}
 use Rattle.std.specs.Prelude.{ℤ, Contains, count_by, slice_set, slice_index_or}
 use Rattle.std.specs.Option.{option_map}
 use Rattle.std.proofs.lemmas.Option.{none-some, same_Some}
@@ -68,10 +69,12 @@ unfolding known is_known
 forgotten-fewer row r v e =
     let inside = known-inside row r v e in
     let one : one_if (is_known (get_or row r None)) ≡ 1 = ap (λ (z : Option ℤ). one_if (is_known z)) e in
-    let sum : count_by is_known (slice_set row r None) + one_if (is_known (get_or row r None)) ≡ count_by is_known row + 0 = sum_by-set (λ (z : Option ℤ). one_if (is_known z)) row r None None inside in
+    let sum : count_by is_known (slice_set row r None) + one_if (is_known (get_or row r None))
+    ≡ count_by is_known row + 0 = sum_by-set (λ (z : Option ℤ). one_if (is_known z)) row r None None inside in
     omega (arith, one, sum)
 
-forgotten-same : (work : List Work) (label : Label) (row : Row) (reg : Reg) → reg.0 < length row → Contains work (Lost label reg) → SameOrLost work label (known row) (known (slice_set row reg.0 None))
+forgotten-same : (work : List Work) (label : Label) (row : Row) (reg : Reg) → reg.0 < length row → Contains work (Lost label reg) →
+    SameOrLost work label (known row) (known (slice_set row reg.0 None))
 forgotten-same work label row reg inside waits = λ r. ⊎_elim
     (λ same. inr (
       subst (λ (x : ℕ). Contains work (Lost label (record { 0 = x }))) (sym same) waits,
@@ -80,7 +83,8 @@ forgotten-same work label row reg inside waits = λ r. ⊎_elim
     (λ other. inl (ap (λ (k : Knowledge). k r) (known-set row reg.0 None inside) ∙ at-other (known row) reg.0 r None other))
     (cases_eq r reg.0)
 
-forgotten-within : (facts : Facts) (row : Row) (a : Knowledge) (r : ℕ) → r < length row → agrees (known row r) (a r) ≡ false → IsWithin facts (Some (known row)) → IsWithin facts (Some a) → IsWithin facts (Some (known (slice_set row r None)))
+forgotten-within : (facts : Facts) (row : Row) (a : Knowledge) (r : ℕ) → r < length row → agrees (known row r) (a r) ≡ false →
+    IsWithin facts (Some (known row)) → IsWithin facts (Some a) → IsWithin facts (Some (known (slice_set row r None)))
 forgotten-within Unreached row a r inside no_ h h' = absurd h
 forgotten-within (Known facts) row a r inside no_ h h' =
     all-from_contains (λ (x : Fact). known (slice_set row r None) x.reg.0 ≡ Some x.value) facts (λ x c.
@@ -96,12 +100,14 @@ forgotten-within (Known facts) row a r inside no_ h h' =
 
 -- ---- what has met
 
-module _ (context : List Fact) (code : Code) (rows rows' : Rows) (work work' : List Work) (to : Label) (reg : Reg) (other : Option ℤ) (begun : IsBegun context code rows work) (within : to.0 < length code.places)
+module _ (context : List Fact) (code : Code) (rows rows' : Rows) (work work' : List Work) (to : Label) (reg : Reg) (other : Option ℤ)
+    (begun : IsBegun context code rows work) (within : to.0 < length code.places)
     (a : Knowledge) (above : IsAbove context code to a) (is : a reg.0 ≡ other) where
   inside : to.0 < length rows
   inside = omega (arith, within, begun.found.count)
 
-  lost-goes : (o : Option Row) → slice_index_or rows to.0 None ≡ o → agrees (slot_in o reg.0) other ≡ false → GoesOn context code rows work (slice_set rows to.0 (forgotten reg.0 o)) (work ++ Lost to reg ∷ [])
+  lost-goes : (o : Option Row) → slice_index_or rows to.0 None ≡ o → agrees (slot_in o reg.0) other ≡ false →
+      GoesOn context code rows work (slice_set rows to.0 (forgotten reg.0 o)) (work ++ Lost to reg ∷ [])
   unfolding slot_in agrees forgotten rank
   lost-goes None e no_ = absurd (cc)
   lost-goes (Some row) e no_ =
@@ -111,10 +117,12 @@ module _ (context : List Fact) (code : Code) (rows rows' : Rows) (work work' : L
       let there : reached_at rows to ≡ Some (known row) = ap (option_map known) e in
       let fewer = forgotten-fewer row reg.0 told.0 told.1 in
       let before : rank code.regs (slice_index_or rows to.0 None) ≡ count_by is_known row = ap (rank code.regs) e in
-      let waits : Contains (work ++ Lost to reg ∷ []) (Lost to reg) = Contains-append_right work (Lost to reg ∷ []) (Lost to reg) (contains-head (Lost to reg) []) in
+      let waits : Contains (work ++ Lost to reg ∷ []) (Lost to reg) = Contains-append_right work (Lost to reg ∷ []) (Lost to reg)
+      (contains-head (Lost to reg) []) in
       row-written context code rows work begun to within (slice_set row reg.0 None) (Lost to reg) (length-set row reg.0 None ∙ wide)
       (λ table consistent.
-      forgotten-within (facts_at table to) row a reg.0 in-row (ap (agrees (known row reg.0)) is ∙ no_) (subst (IsWithin (facts_at table to)) there (begun.found.above table consistent to)) (above table consistent))
+      forgotten-within (facts_at table to) row a reg.0 in-row (ap (agrees (known row reg.0)) is ∙ no_)
+      (subst (IsWithin (facts_at table to)) there (begun.found.above table consistent to)) (above table consistent))
       (subst (λ o. LowersAt (work ++ Lost to reg ∷ []) to o (Some (known (slice_set row reg.0 None)))) (sym there)
       (known (slice_set row reg.0 None), refl, forgotten-same (work ++ Lost to reg ∷ []) to row reg in-row waits))
       (record {
@@ -130,26 +138,34 @@ module _ (context : List Fact) (code : Code) (rows rows' : Rows) (work work' : L
   pub met-goes : HasMet rows work to reg other rows' work' → GoesOn context code rows work rows' work'
   unfolding slot_at
   met-goes met = ⊎_elim
-      (λ lost. subst (λ (r : Rows). GoesOn context code rows work r work') (sym lost.1) (subst (GoesOn context code rows work (slice_set rows to.0 (forgotten reg.0 (slice_index_or rows to.0 None)))) (sym lost.2) (lost-goes (slice_index_or rows to.0 None) refl lost.0)))
-      (λ kept. subst (λ (r : Rows). GoesOn context code rows work r work') (sym kept.1) (subst (GoesOn context code rows work rows) (sym kept.2) (goes-self context code rows work begun)))
+      (λ lost. subst (λ (r : Rows). GoesOn context code rows work r work') (sym lost.1)
+      (subst (GoesOn context code rows work (slice_set rows to.0 (forgotten reg.0 (slice_index_or rows to.0 None)))) (sym lost.2)
+      (lost-goes (slice_index_or rows to.0 None) refl lost.0)))
+      (λ kept. subst (λ (r : Rows). GoesOn context code rows work r work') (sym kept.1)
+      (subst (GoesOn context code rows work rows) (sym kept.2) (goes-self context code rows work begun)))
       met
 
 -- what is known then of the register has arrived
-pub met-told : (rows rows' : Rows) (work work' : List Work) (to : Label) (reg : Reg) (other : Option ℤ) (k : Knowledge) → to.0 < length rows → HasMet rows work to reg other rows' work' → reached_at rows' to ≡ Some k → (v : ℤ) → k reg.0 ≡ Some v → other ≡ Some v
+pub met-told : (rows rows' : Rows) (work work' : List Work) (to : Label) (reg : Reg) (other : Option ℤ) (k : Knowledge) → to.0 < length rows →
+    HasMet rows work to reg other rows' work' → reached_at rows' to ≡ Some k → (v : ℤ) → k reg.0 ≡ Some v → other ≡ Some v
 unfolding slot_at slot_in agrees forgotten
 met-told rows rows' work work' to reg other k inside met here v e = ⊎_elim
     (λ lost. by_lost (slice_index_or rows to.0 None) refl lost.0 lost.1)
     (λ kept. by_kept (slice_index_or rows to.0 None) refl kept.0 kept.1)
     met
   where
-    by_lost : (o : Option Row) → slice_index_or rows to.0 None ≡ o → agrees (slot_in o reg.0) other ≡ false → rows' ≡ slice_set rows to.0 (forgotten reg.0 (slice_index_or rows to.0 None)) → other ≡ Some v
+    by_lost : (o : Option Row) → slice_index_or rows to.0 None ≡ o → agrees (slot_in o reg.0) other ≡ false →
+        rows' ≡ slice_set rows to.0 (forgotten reg.0 (slice_index_or rows to.0 None)) → other ≡ Some v
     by_lost None is no_ made = absurd (cc)
     by_lost (Some row) is no_ made =
         let told = differ-known (known row reg.0) other no_ in
         let in-row : reg.0 < length row = known-inside row reg.0 told.0 told.1 in
         let now : rows' ≡ slice_set rows to.0 (Some (slice_set row reg.0 None)) = made ∙ ap (λ o. slice_set rows to.0 (forgotten reg.0 o)) is in
-        let same : known (slice_set row reg.0 None) ≡ k = same_Some (known (slice_set row reg.0 None)) k (sym (reached-same rows to (slice_set row reg.0 None) inside) ∙ sym (ap (λ (r : Rows). reached_at r to) now) ∙ here) in
-        absurd (none-some v (sym (ap (λ (j : Knowledge). j reg.0) (known-set row reg.0 None in-row) ∙ at-written (known row) reg.0 reg.0 None refl) ∙ ap (λ (j : Knowledge). j reg.0) same ∙ e))
+        let same : known (slice_set row reg.0 None)
+        ≡ k = same_Some (known (slice_set row reg.0 None)) k (sym (reached-same rows to (slice_set row reg.0 None) inside)
+        ∙ sym (ap (λ (r : Rows). reached_at r to) now) ∙ here) in
+        absurd (none-some v (sym (ap (λ (j : Knowledge). j reg.0) (known-set row reg.0 None in-row) ∙ at-written (known row) reg.0 reg.0 None refl)
+        ∙ ap (λ (j : Knowledge). j reg.0) same ∙ e))
 
     by_kept : (o : Option Row) → slice_index_or rows to.0 None ≡ o → agrees (slot_in o reg.0) other ≡ true → rows' ≡ rows → other ≡ Some v
     by_kept None is yes_ made = absurd (none-some k (sym (ap (option_map known) is) ∙ sym (ap (λ (r : Rows). reached_at r to) made) ∙ here))
@@ -158,7 +174,9 @@ met-told rows rows' work work' to reg other k inside met here v e = ⊎_elim
         agrees-some (known row reg.0) other v yes_ (ap (λ (j : Knowledge). j reg.0) same ∙ e)
 
 -- one register more has met
-pub met-more : (rows rows' : Rows) (work work' : List Work) (to : Label) (reg : Reg) (other : Option ℤ) (arrival : Row) (n : ℕ) → to.0 < length rows → Lowers rows work rows' work' → HasMet rows work to reg other rows' work' → reg.0 ≡ n → other ≡ known arrival n → AreMet rows to arrival n → AreMet rows' to arrival (n + 1)
+pub met-more : (rows rows' : Rows) (work work' : List Work) (to : Label) (reg : Reg) (other : Option ℤ) (arrival : Row) (n : ℕ) → to.0 < length rows →
+    Lowers rows work rows' work' → HasMet rows work to reg other rows' work' → reg.0 ≡ n → other ≡ known arrival n → AreMet rows to arrival n →
+    AreMet rows' to arrival (n + 1)
 met-more rows rows' work work' to reg other arrival n inside lowers met at is before =
     let now = still-reached rows rows' work work' to before.0 lowers before.1 in (
       now.0,

@@ -38,7 +38,8 @@ one-orderly n label h = record {
   once = λ i j d up inside. absurd (omega arith);
 }
 
-module _ (context : List Fact) (code : Code) (rows : Rows) (row : Row) (params : ℕ) (fine : AreFactsFine params context) (told : known row ≡ told_by context) (width : length row ≡ code.regs) (within : code.entry.0 < length code.places)
+module _ (context : List Fact) (code : Code) (rows : Rows) (row : Row) (params : ℕ) (fine : AreFactsFine params context) (told : known row ≡ told_by context)
+    (width : length row ≡ code.regs) (within : code.entry.0 < length code.places)
     (is : rows ≡ slice_set (replicate (length code.places) None) code.entry.0 (Some row)) where
   abbrev w : Waiting
   w = waiting (length code.places) (code.entry ∷ [])
@@ -70,22 +71,27 @@ module _ (context : List Fact) (code : Code) (rows : Rows) (row : Row) (params :
     edges = edges;
   })
     where
-      edges : (label : Label) (place : Place) (to : Label) → place_at code label ≡ Some place → Contains (successors place.instr) to → EdgeRests rows (Reached code.entry ∷ []) place.instr label to
+      edges : (label : Label) (place : Place) (to : Label) → place_at code label ≡ Some place → Contains (successors place.instr) to →
+          EdgeRests rows (Reached code.entry ∷ []) place.instr label to
       edges label place to at c k here = ⊎_elim
-          (λ waits. inl (subst (λ (l : Label). Contains (Reached code.entry ∷ []) (Reached l)) (contains-one code.entry label waits) (contains-head (Reached code.entry) [])))
+          (λ waits. inl (subst (λ (l : Label). Contains (Reached code.entry ∷ []) (Reached l)) (contains-one code.entry label waits)
+          (contains-head (Reached code.entry) [])))
           (λ holds. inr (k, holds k here, same-self (Reached code.entry ∷ []) label k))
           (begun.found.edges label to place at c)
 
 -- ---- the end
 
-pub sparse-ends : (context : List Fact) (code : Code) (rows : Rows) (work : List Work) → IsSearch context code rows work → work ≡ [] → IsStrongest context code (map (facts_in code.regs) rows)
+pub sparse-ends : (context : List Fact) (code : Code) (rows : Rows) (work : List Work) → IsSearch context code rows work → work ≡ [] →
+    IsStrongest context code (map (facts_in code.regs) rows)
 sparse-ends context code rows work s none = search-ends context code rows (none_waits (length code.places)) dense_search refl
   where
     holds : (label to : Label) (place : Place) → place_at code label ≡ Some place → Contains (successors place.instr) to → EdgeHolds rows place.instr label to
     holds label to place at c k here = ⊎_elim
         (λ waits. absurd (contains-none (Reached label) (subst (λ (ls : List Work). Contains ls (Reached label)) none waits)))
         (λ old.
-        let less : TellsNoMore old.0 k = λ r v e. ⊎_elim (λ same. same ∙ e) (λ lost. absurd (contains-none (Lost label (record { 0 = r })) (subst (λ (ls : List Work). Contains ls (Lost label (record { 0 = r }))) none lost.0))) (old.2 r) in
+        let less : TellsNoMore old.0 k = λ r v e. ⊎_elim (λ same. same ∙ e)
+        (λ lost. absurd (contains-none (Lost label (record { 0 = r }))
+        (subst (λ (ls : List Work). Contains ls (Lost label (record { 0 = r }))) none lost.0))) (old.2 r) in
         less-trans (reached_at rows to) (leaves old.0 place.instr to) (leaves k place.instr to) old.1 (leaves-less old.0 k place.instr to less))
         (s.edges label place to at c k here)
 

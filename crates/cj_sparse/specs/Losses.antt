@@ -1,5 +1,6 @@
 -- What the sparse search for the strongest facts keeps.
-use Rattle.std.specs.Prelude.{◌≡◌, ℕ, ◌+◌, ◌*◌, ◌<◌, ◌≤◌, ◌⊎◌, List, [], ◌∷◌, ◌++◌, length, sum_by, Contains, ⊤, Option, Some, None, true, false, ℤ, slice_index_or, slice_set}
+use Rattle.std.specs.Prelude.{◌≡◌, ℕ, ◌+◌, ◌*◌, ◌<◌, ◌≤◌, ◌⊎◌, List, [], ◌∷◌, ◌++◌, length, sum_by, Contains, ⊤, Option, Some, None, true, false, ℤ}
+use Rattle.std.specs.Prelude.{slice_index_or, slice_set}
 use Rattle.cj_ir.specs.declared.language.Label.{Label}
 use Rattle.cj_ir.specs.declared.language.Reg.{Reg}
 use Rattle.cj_draft.specs.declared.facts.Fact.{Fact}
@@ -80,7 +81,8 @@ unfoldable pub work_left : ℕ → List (Option (List (Option ℤ))) → List Wo
 work_left n rows work = 2 * sum_by (rank n) rows + length work
 
 -- from one state of a search to another
-pub record GoesOn (context : List Fact) (code : Code) (rows : List (Option (List (Option ℤ)))) (work : List Work) (rows' : List (Option (List (Option ℤ)))) (work' : List Work) : Type 0 where
+pub record GoesOn (context : List Fact) (code : Code) (rows : List (Option (List (Option ℤ)))) (work : List Work) (rows' : List (Option (List (Option ℤ))))
+    (work' : List Work) : Type 0 where
   pub begun : IsBegun context code rows' work'
   pub lowers : Lowers rows work rows' work'
   pub left : work_left code.regs rows' work' ≤ work_left code.regs rows work

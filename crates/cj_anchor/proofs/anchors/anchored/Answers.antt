@@ -25,9 +25,12 @@ returns c =
     let r = led_to label (fresh_label code) in
     let place = c.index-items-label.result in
     let fresh = c.in_ok-place.place in
-    let at : place_at code label ≡ Some place = get-read code.places c.items.result.now label.0 place c.items.ensures c.requires.within c.index-items-label.is in
-    let is_table : IsTable r n table = subst (λ (ps : List Place). IsTable (led_to label (numbered (length ps))) (length ps) table) c.items-labels.ensures c.in_ok-table.ensures in
-    let entry = c.given-entry.ensures ∙ ap (λ (t : List Label). given t code.entry) c.items-2.ensures ∙ given_in r n table code.entry is_table c.requires.closed.entry in
+    let at : place_at code label
+    ≡ Some place = get-read code.places c.items.result.now label.0 place c.items.ensures c.requires.within c.index-items-label.is in
+    let is_table : IsTable r n table = subst (λ (ps : List Place). IsTable (led_to label (numbered (length ps))) (length ps) table) c.items-labels.ensures
+    c.in_ok-table.ensures in
+    let entry = c.given-entry.ensures ∙ ap (λ (t : List Label). given t code.entry) c.items-2.ensures
+    ∙ given_in r n table code.entry is_table c.requires.closed.entry in
     let old = c.in_ok-places.ensures ∙ ap (λ (t : List Label). map (led_place (given t)) code.places) c.items-3.ensures
     ∙ led_alike (given table) r n (λ x h. given_in r n table x is_table h) code.places c.requires.closed.edges in
     let places = c.in_ok-push.ensures.ok ∙ ap₂ (λ (ps : List Place) (p : Place). ps ++ p ∷ []) old c.in_ok-place.ensures.same in

@@ -38,7 +38,8 @@ loop-index-preserved c =
     let zero_label : Label = record { 0 = 0 } in
     let x : Label = get_or c.items-label-items.result.now n zero_label in
     let inside : n < length places = omega (arith, ap length c.items-label-items.ensures) in
-    let e : drop n places ≡ x ∷ drop (n + 1) places = drop_more places n zero_label inside ∙ ap (λ (xs : List Label). get_or xs n zero_label ∷ drop (n + 1) places) (sym c.items-label-items.ensures) in
+    let e : drop n places ≡ x ∷ drop (n + 1) places = drop_more places n zero_label inside
+    ∙ ap (λ (xs : List Label). get_or xs n zero_label ∷ drop (n + 1) places) (sym c.items-label-items.ensures) in
     let step = c.in_ok-code.ensures in
     record {
       function = step_function code n x made skips more step ∙ c.loop-index.invariant.function;

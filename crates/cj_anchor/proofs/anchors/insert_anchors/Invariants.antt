@@ -9,5 +9,6 @@ abbrev pub invariant-loop-index : goal.invariant-loop-index
 invariant-loop-index l = record {
   function : l.code.function ≡ l.fn.draft.code.function;
   sound : Sound l.fn.draft.program l.fn.draft.context l.fn.draft.code.function l.code;
-  rest : (made : Code) (skips : List (ℕ × Skipped)) → AreAnchored l.index l.code (drop l.index l.places) made skips → AreAnchored 0 l.fn.draft.code l.places made (l.skips ++ skips);
+  rest : (made : Code) (skips : List (ℕ × Skipped)) → AreAnchored l.index l.code (drop l.index l.places) made skips →
+      AreAnchored 0 l.fn.draft.code l.places made (l.skips ++ skips);
 }

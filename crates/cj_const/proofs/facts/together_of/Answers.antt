@@ -28,11 +28,13 @@ loop-reg-preserved c =
     let mine = known-in c.items.result.now c.args.one.now r c.known-mine.result c.known-mine.ensures c.items.ensures in
     let others = known-in c.items-in-loop-reg.result.now c.args.other.now r c.known-others.result c.known-others.ensures c.items-in-loop-reg.ensures in
     record {
-      clear = clash-more k k' r c.known-mine.result c.known-others.result c.differ.result c.loop-reg.invariant.clear mine others c.differ.ensures c.if-differ.false;
+      clear = clash-more k k' r c.known-mine.result c.known-others.result c.differ.result c.loop-reg.invariant.clear mine others c.differ.ensures
+          c.if-differ.false;
       facts = below-more (both k k') r c.loop-reg.facts c.push_fact.new.facts c.or_else.result c.loop-reg.invariant.facts c.in_ok-push_fact.ensures
           (both-at k k' r c.known-mine.result c.known-others.result c.or_else.result mine others c.or_else.ensures);
     }
 
 pub returns : goal.returns
 returns c =
-    together-clear (known c.args.one.now) (known c.args.other.now) c.loop-reg.reg c.args.regs c.loop-reg.facts (omega arith) c.loop-reg.invariant.clear c.loop-reg.invariant.facts
+    together-clear (known c.args.one.now) (known c.args.other.now) c.loop-reg.reg c.args.regs c.loop-reg.facts
+    (omega arith) c.loop-reg.invariant.clear c.loop-reg.invariant.facts

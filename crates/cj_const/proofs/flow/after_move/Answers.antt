@@ -8,7 +8,9 @@ pub loop-pair-preserved : goal.loop-pair-preserved
 loop-pair-preserved c =
     let k = known c.args.row.now in
     record {
-      left = move-more c.args.row.now c.items.result.now c.loop-pair.made c.set.new.self c.args.pairs.now c.loop-pair.pair-index _ c.known_value.result (after_move k c.args.pairs.now k) c.loop-pair-test.true c.requires c.loop-pair.invariant.width c.set.ensures c.known_value.ensures c.items.ensures c.loop-pair.invariant.left;
+      left = move-more c.args.row.now c.items.result.now c.loop-pair.made c.set.new.self c.args.pairs.now c.loop-pair.pair-index _ c.known_value.result
+          (after_move k c.args.pairs.now k) c.loop-pair-test.true c.requires c.loop-pair.invariant.width c.set.ensures c.known_value.ensures c.items.ensures
+          c.loop-pair.invariant.left;
       width = ap length c.set.ensures ∙ length-set c.loop-pair.made _ _ ∙ c.loop-pair.invariant.width;
     }
 

@@ -17,7 +17,8 @@ loop-reg-preserved c =
     (c.in_ok-push.ensures.ok ∙ ap₂ (λ (row : List (Option ℤ)) (x : Option ℤ). row ++ x ∷ []) c.loop-reg.invariant c.told_by.ensures)
 
 pub returns-clause-told : goal.returns-clause-told
-returns-clause-told c = ap known c.loop-reg.invariant ∙ ap (λ n. known (row_below (told_by c.args.facts.now) n)) (omega arith) ∙ known-row_below c.args.facts.now c.args.regs c.requires
+returns-clause-told c = ap known c.loop-reg.invariant ∙ ap (λ n. known (row_below (told_by c.args.facts.now) n)) (omega arith)
+    ∙ known-row_below c.args.facts.now c.args.regs c.requires
 
 pub returns-clause-width : goal.returns-clause-width
 returns-clause-width c = ap length c.loop-reg.invariant ∙ length-row_below (told_by c.args.facts.now) c.loop-reg.reg ∙ omega arith

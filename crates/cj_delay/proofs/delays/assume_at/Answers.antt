@@ -34,12 +34,16 @@ returns c =
     let next = c.on_path-next.result in
     let place = c.index-items-next.result in
     let is_next : next ≡ on_path path end = c.on_path-next.ensures in
-    let inside : next.0 < length code.places = subst (λ (x : Label). x.0 < length code.places) (sym is_next) (c.requires.path.within end (let long = c.requires.path.long in omega arith)) in
+    let inside : next.0 < length code.places = subst (λ (x : Label). x.0 < length code.places) (sym is_next)
+    (c.requires.path.within end (let long = c.requires.path.long in omega arith)) in
     let at : place_at code next ≡ Some place = get-read code.places c.items.result.now next.0 place c.items.ensures inside c.index-items-next.is in
     let back : c.args.number + c.turns_before.result ≡ c.args.number + turns_before code path end = ap (λ n. c.args.number + n) c.turns_before.ensures.count in
-    let instr = c.in_ok-instr.ensures ∙ ap (λ n. Assume c.args.guards.now n c.args.target.now next) back ∙ ap (λ (x : Label). Assume c.args.guards.now (c.args.number + turns_before code path end) c.args.target.now x) is_next in (
+    let instr = c.in_ok-instr.ensures ∙ ap (λ n. Assume c.args.guards.now n c.args.target.now next) back
+    ∙ ap (λ (x : Label). Assume c.args.guards.now (c.args.number + turns_before code path end) c.args.target.now x) is_next in (
       place,
       ap (place_at code) (sym is_next) ∙ at,
-      subst (λ (q : Back). IsFreshPlace (Assume c.args.guards.now (c.args.number + turns_before code path end) c.args.target.now (on_path path end)) place q c.in_ok-made.made) (ap (λ n. pair_of n c.args.target.now) back)
-          (subst (λ (i : VInstr). IsFreshPlace i place (pair_of (c.args.number + c.turns_before.result) c.args.target.now) c.in_ok-made.made) instr c.in_ok-made.ensures),
+      subst (λ (q : Back). IsFreshPlace (Assume c.args.guards.now (c.args.number + turns_before code path end) c.args.target.now (on_path path end)) place q
+          c.in_ok-made.made) (ap (λ n. pair_of n c.args.target.now) back)
+          (subst (λ (i : VInstr). IsFreshPlace i place (pair_of (c.args.number + c.turns_before.result) c.args.target.now) c.in_ok-made.made) instr
+          c.in_ok-made.ensures),
     )

@@ -12,7 +12,8 @@ use Rattle.cj_delay.proofs.delays.marked.Goals as goal
 pub mark-requires : goal.mark-requires
 mark-requires c =
     let l = c.loop-at in
-    let within = still_within c.args.code l.code c.args.path.now c.args.target.now c.args.number l.at c.requires.path l.auto.at (omega arith) l.invariant.same l.invariant.marked in
+    let within = still_within c.args.code l.code c.args.path.now c.args.target.now c.args.number l.at c.requires.path l.auto.at
+    (omega arith) l.invariant.same l.invariant.marked in
     subst (λ (x : Label). x.0 < length l.code.places) (sym c.on_path-label.ensures) within
 
 pub loop-at-init : goal.loop-at-init
@@ -26,7 +27,8 @@ loop-at-init c = record {
 more_turns : (c : goal.In_ok-code) → c.loop-at.turns + c.turns_at-more.result ≡ c.args.number + turns_before c.args.code c.args.path.now (c.loop-at.at + 1)
 more_turns c =
     let l = c.loop-at in
-    turns_more_now c.args.code l.code c.args.path.now c.args.target.now c.args.number l.at c.requires.path l.auto.at (omega arith) l.invariant.same l.invariant.marked
+    turns_more_now c.args.code l.code c.args.path.now c.args.target.now c.args.number l.at c.requires.path l.auto.at
+    (omega arith) l.invariant.same l.invariant.marked
     l.turns c.turns_at-more.result l.invariant.turns (c.turns_at-more.ensures ∙ ap (λ (x : Label). cond (turn_at l.code x) 1 0) c.on_path-label.ensures)
 
 pub loop-at-preserved : goal.loop-at-preserved
@@ -34,8 +36,10 @@ loop-at-preserved c =
     let l = c.loop-at in
     let is = subst (λ (x : Label). IsMarkedAt l.code x (pair_of l.turns c.args.target.now) c.in_ok-code.code) c.on_path-label.ensures c.in_ok-code.ensures in
     record {
-      same = same_more c.args.code l.code c.args.path.now c.args.target.now c.args.number l.at c.requires.path l.auto.at (omega arith) l.invariant.same l.invariant.marked c.in_ok-code.code l.turns l.invariant.turns is;
-      marked = marked_more c.args.code l.code c.args.path.now c.args.target.now c.args.number l.at c.requires.path l.auto.at (omega arith) l.invariant.same l.invariant.marked c.in_ok-code.code l.turns l.invariant.turns is;
+      same = same_more c.args.code l.code c.args.path.now c.args.target.now c.args.number l.at c.requires.path l.auto.at
+          (omega arith) l.invariant.same l.invariant.marked c.in_ok-code.code l.turns l.invariant.turns is;
+      marked = marked_more c.args.code l.code c.args.path.now c.args.target.now c.args.number l.at c.requires.path l.auto.at
+          (omega arith) l.invariant.same l.invariant.marked c.in_ok-code.code l.turns l.invariant.turns is;
       turns = more_turns c;
     }
 

@@ -11,9 +11,11 @@ returns c =
 pub returns-in-Some : goal.returns-in-Some
 returns-in-Some c =
     let whole = steps_offence c.args.program.now c.args.code.now c.args.path.now (length c.args.path.now - 1) 1 in
-    steps_found c.args.program.now c.args.code.now c.args.path.now c.loop-at.at c.in-Some.skipped whole c.loop-at-test.true (sym c.step_offence.ensures ∙ c.in-Some.is) c.loop-at.invariant
+    steps_found c.args.program.now c.args.code.now c.args.path.now c.loop-at.at c.in-Some.skipped whole c.loop-at-test.true (sym c.step_offence.ensures
+    ∙ c.in-Some.is) c.loop-at.invariant
 
 pub loop-at-preserved : goal.loop-at-preserved
 loop-at-preserved c =
     let whole = steps_offence c.args.program.now c.args.code.now c.args.path.now (length c.args.path.now - 1) 1 in
-    steps_on c.args.program.now c.args.code.now c.args.path.now c.loop-at.at whole c.loop-at-test.true (sym c.step_offence.ensures ∙ c.in_default.is) c.loop-at.invariant
+    steps_on c.args.program.now c.args.code.now c.args.path.now c.loop-at.at whole c.loop-at-test.true (sym c.step_offence.ensures
+    ∙ c.in_default.is) c.loop-at.invariant

@@ -17,10 +17,12 @@ loop-index-preserved c =
     let turns = more ∙ ap (λ (b : Bool). turns_before code path i + cond b 1 0) is in
     elim c.if-is_turn_at.branch [
       | then-is_turn_at w ↦
-          let t : turns_before code path (i + 1) ≡ turns_before code path i + 1 = turns ∙ ap (λ (b : Bool). turns_before code path i + cond b 1 0) w.if-is_turn_at.true in
+          let t : turns_before code path (i + 1) ≡ turns_before code path i + 1 = turns
+          ∙ ap (λ (b : Bool). turns_before code path i + cond b 1 0) w.if-is_turn_at.true in
           record { turns = omega (arith, t, c.loop-index.invariant.turns, w.count-is); few = omega (arith, c.loop-index.invariant.few, w.count-is) }
       | else-is_turn_at w ↦
-          let t : turns_before code path (i + 1) ≡ turns_before code path i + 0 = turns ∙ ap (λ (b : Bool). turns_before code path i + cond b 1 0) w.if-is_turn_at.false in
+          let t : turns_before code path (i + 1) ≡ turns_before code path i + 0 = turns
+          ∙ ap (λ (b : Bool). turns_before code path i + cond b 1 0) w.if-is_turn_at.false in
           record { turns = omega (arith, t, c.loop-index.invariant.turns, w.count-is); few = omega (arith, c.loop-index.invariant.few, w.count-is) }
     ]
 

@@ -11,17 +11,21 @@ use Rattle.cj_delay.proofs.tests.anchored.Goals as goal
 nexts_split : (places : List Place) (p : Place) → all_nexts (places ++ p ∷ []) ≡ all_nexts places ++ successors p.instr
 unfolding all_nexts
 nexts_split [] p = append-nil (successors p.instr)
-nexts_split (q ∷ places) p = ap (λ (ls : List Label). successors q.instr ++ ls) (nexts_split places p) ∙ sym (append_assoc (successors q.instr) (all_nexts places) (successors p.instr))
+nexts_split (q ∷ places) p = ap (λ (ls : List Label). successors q.instr ++ ls) (nexts_split places p)
+    ∙ sym (append_assoc (successors q.instr) (all_nexts places) (successors p.instr))
 
 -- one place more, which goes on to the entry of the others
-nexts_more : (places : List Place) (p : Place) (next : Label) → AreNextsWithin places → next.0 < length places → successors p.instr ≡ next ∷ [] → AreNextsWithin (places ++ p ∷ [])
+nexts_more : (places : List Place) (p : Place) (next : Label) → AreNextsWithin places → next.0 < length places → successors p.instr ≡ next ∷ [] →
+    AreNextsWithin (places ++ p ∷ [])
 nexts_more places p next closed inside is =
     let size : length (places ++ p ∷ []) ≡ length places + 1 = length-append places (p ∷ []) in
     record {
       within = subst (All (λ (y : Label). y.0 < length (places ++ p ∷ []))) (sym (nexts_split places p))
           (All-append (λ (y : Label). y.0 < length (places ++ p ∷ [])) (all_nexts places) (successors p.instr)
-          (All-weaker (λ (y : Label). y.0 < length places) (λ (y : Label). y.0 < length (places ++ p ∷ [])) (λ y h. omega arith) (all_nexts places) closed.within)
-          (subst (All (λ (y : Label). y.0 < length (places ++ p ∷ []))) (sym is) (All-cons (λ (y : Label). y.0 < length (places ++ p ∷ [])) next [] (omega arith) (All-nil (λ (y : Label). y.0 < length (places ++ p ∷ []))))));
+          (All-weaker (λ (y : Label). y.0 < length places) (λ (y : Label). y.0 < length (places ++ p ∷ [])) (λ y h. omega arith)
+          (all_nexts places) closed.within)
+          (subst (All (λ (y : Label). y.0 < length (places ++ p ∷ []))) (sym is)
+          (All-cons (λ (y : Label). y.0 < length (places ++ p ∷ [])) next [] (omega arith) (All-nil (λ (y : Label). y.0 < length (places ++ p ∷ []))))));
     }
 
 pub returns-clause-closed : goal.returns-clause-closed

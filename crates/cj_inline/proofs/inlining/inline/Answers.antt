@@ -52,7 +52,8 @@ adopt_in-requires-2-clause-sound c =
     let sound_callee = subst (λ (k : Code). Sound P [] k.function k) (sym theirs.same)
     (subst (λ p. Sound p [] c.args.callee.now.code.function c.args.callee.now.code) (c.requires.program ∙ sym parts.program)
     (subst (λ x. Sound c.args.callee.now.program x c.args.callee.now.code.function c.args.callee.now.code) c.requires.context theirs.sound)) in
-    let made = inlined_sound P c.program.ensures.well_formed context draft.code.function code callee call (can_inline code call callee none) sound sound_callee in
+    let made = inlined_sound P c.program.ensures.well_formed context draft.code.function code callee call (can_inline code call callee none) sound sound_callee
+    in
     let is = c.in_ok-code.ensures ∙ ap (λ p. inlined p code call callee) c.program.ensures.same in
     subst (λ (f : FunId). Sound P context f c.in_ok-code.code) (sym function)
     (subst (Sound P context draft.code.function) (sym is) made)

@@ -23,4 +23,5 @@ pub returns : goal.returns
 returns c =
     let kept = c.args.kept.now in
     let f = led_place (given c.args.table.now) in
-    sym (kept_over f c.loop-keeps.made (drop c.loop-keeps.keeps-index kept) (reverse c.loop-keeps.rest) (drop_of_length-le kept (omega arith))) ∙ c.loop-keeps.invariant
+    sym (kept_over f c.loop-keeps.made (drop c.loop-keeps.keeps-index kept) (reverse c.loop-keeps.rest) (drop_of_length-le kept (omega arith)))
+    ∙ c.loop-keeps.invariant

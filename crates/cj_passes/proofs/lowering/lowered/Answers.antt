@@ -20,7 +20,9 @@ returns c =
     let kept = c.args.kept.now in
     let n = length code.places in
     let table = c.in_ok-table.table in
-    let entry = c.given-entry.ensures ∙ ap (λ (t : List Label). given t code.entry) c.items.ensures ∙ given_in (led code kept) n table code.entry c.in_ok-table.ensures c.requires.closed.entry in
+    let entry = c.given-entry.ensures ∙ ap (λ (t : List Label). given t code.entry) c.items.ensures
+    ∙ given_in (led code kept) n table code.entry c.in_ok-table.ensures c.requires.closed.entry in
     let places = c.in_ok-places.ensures ∙ ap (λ (t : List Label). map (led_place (given t)) (kept_of kept code.places)) c.items-2.ensures
-    ∙ led_alike (given table) (led code kept) n (λ x h. given_in (led code kept) n table x c.in_ok-table.ensures h) (kept_of kept code.places) (all_kept (HasEdgesWithin n) kept code.places c.requires.closed.edges) in
+    ∙ led_alike (given table) (led code kept) n (λ x h. given_in (led code kept) n table x c.in_ok-table.ensures h) (kept_of kept code.places)
+    (all_kept (HasEdgesWithin n) kept code.places c.requires.closed.edges) in
     ap₂ (with_places code) entry places

@@ -7,7 +7,8 @@ use Rattle.cj_passes.proofs.lowering.move_next.Goals as goal
 
 pub returns-in_default-clause-made : goal.returns-in_default-clause-made
 returns-in_default-clause-made c =
-    sym (kept_end (led_place (given c.args.table.now)) c.args.made.now c.args.keeps (reverse c.args.rest.now) (popped_none c.args.rest.now c.pop.result c.pop.ensures.item c.in_default.is))
+    sym (kept_end (led_place (given c.args.table.now)) c.args.made.now c.args.keeps (reverse c.args.rest.now)
+    (popped_none c.args.rest.now c.pop.result c.pop.ensures.item c.in_default.is))
 
 pub returns-in_err-push-clause-rest : goal.returns-in_err-push-clause-rest
 returns-in_err-push-clause-rest c =
@@ -21,7 +22,8 @@ pub returns-in_ok-push-clause-made : goal.returns-in_ok-push-clause-made
 returns-in_ok-push-clause-made c =
     let first = popped c.args.rest.now c.pop.new.self c.pop.result c.in-Some.place c.pop.ensures.item c.in-Some.is c.pop.ensures.rest in
     c.in_ok-push.ensures.ok ∙ ap (λ p. c.args.made.now ++ p ∷ []) c.led_place.ensures
-    ∙ sym (kept_one (led_place (given c.args.table.now)) c.args.made.now c.args.keeps (reverse c.args.rest.now) c.in-Some.place (reverse c.pop.new.self) first c.if-keeps.true)
+    ∙ sym (kept_one (led_place (given c.args.table.now)) c.args.made.now c.args.keeps (reverse c.args.rest.now) c.in-Some.place
+    (reverse c.pop.new.self) first c.if-keeps.true)
 
 pub returns-else-keeps-clause-rest : goal.returns-else-keeps-clause-rest
 returns-else-keeps-clause-rest c =
@@ -30,4 +32,5 @@ returns-else-keeps-clause-rest c =
 pub returns-else-keeps-clause-made : goal.returns-else-keeps-clause-made
 returns-else-keeps-clause-made c =
     let first = popped c.args.rest.now c.pop.new.self c.pop.result c.in-Some.place c.pop.ensures.item c.in-Some.is c.pop.ensures.rest in
-    sym (kept_not (led_place (given c.args.table.now)) c.args.made.now c.args.keeps (reverse c.args.rest.now) c.in-Some.place (reverse c.pop.new.self) first c.if-keeps.false)
+    sym (kept_not (led_place (given c.args.table.now)) c.args.made.now c.args.keeps (reverse c.args.rest.now) c.in-Some.place
+    (reverse c.pop.new.self) first c.if-keeps.false)

@@ -39,7 +39,8 @@ loop-number-preserved c =
     let e = c.in_ok-draft-2.ensures in
     let inside : n < length passes = omega (arith, ap length c.items-pass-items.ensures) in
     let x = c.pass-item.result in
-    let more : drop n passes ≡ x ∷ drop (n + 1) passes = drop_more passes n x inside ∙ ap (λ (ps : List Pass). get_or ps n x ∷ drop (n + 1) passes) (sym c.items-pass-items.ensures)
+    let more : drop n passes ≡ x ∷ drop (n + 1) passes = drop_more passes n x inside
+    ∙ ap (λ (ps : List Pass). get_or ps n x ∷ drop (n + 1) passes) (sym c.items-pass-items.ensures)
     ∙ ap (λ (p : Pass). p ∷ drop (n + 1) passes) (sym c.pass-item.is) in
     let step = subst (λ (Q : Program). IsPassStep Q draft.code n x next.code c.loop-number.skips c.passed.new.skips) i.program e.made in
     record {
@@ -63,7 +64,8 @@ returns-clause-made c =
     let n = c.loop-number.number in
     let draft = c.loop-number.draft in
     let none_left : drop n passes ≡ [] = drop_of_length-le passes (omega (arith, ap length c.items-pass-items.ensures)) in
-    let all = c.loop-number.invariant.rest draft.code [] (subst (λ (ps : List Pass). ArePassed P n draft.code ps draft.code []) (sym none_left) (Finished n draft.code)) in
+    let all = c.loop-number.invariant.rest draft.code []
+    (subst (λ (ps : List Pass). ArePassed P n draft.code ps draft.code []) (sym none_left) (Finished n draft.code)) in
     record {
       draft = draft.code;
       passed = subst (ArePassed P 0 (base_code P c.args.f) passes draft.code) (append-nil c.loop-number.skips) all;

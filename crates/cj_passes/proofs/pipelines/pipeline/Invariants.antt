@@ -10,5 +10,6 @@ invariant-loop-number l = record {
   program : l.draft.program ≡ l.checked;
   context : l.draft.context ≡ [];
   function : l.draft.code.function ≡ l.fn.f;
-  rest : (made : Code) (later : List (ℕ × Skipped)) → ArePassed l.checked l.number l.draft.code (drop l.number l.passes) made later → ArePassed l.checked 0 (base_code l.checked l.fn.f) l.passes made (l.skips ++ later);
+  rest : (made : Code) (later : List (ℕ × Skipped)) → ArePassed l.checked l.number l.draft.code (drop l.number l.passes) made later →
+      ArePassed l.checked 0 (base_code l.checked l.fn.f) l.passes made (l.skips ++ later);
 }

@@ -16,7 +16,8 @@ loop-followed-preserved c =
     let zero_label : Label = record { 0 = 0 } in
     let x : Label = get_or c.items-in-loop-followed.result.now n zero_label in
     let inside : n < length old = omega (arith, ap length c.items.ensures) in
-    let at : slice_get old n ≡ Some x = slice_get-get_or old n zero_label inside ∙ ap (λ (xs : List Label). Some (get_or xs n zero_label)) (sym c.items-in-loop-followed.ensures) in
+    let at : slice_get old n ≡ Some x = slice_get-get_or old n zero_label inside
+    ∙ ap (λ (xs : List Label). Some (get_or xs n zero_label)) (sym c.items-in-loop-followed.ensures) in
     let grows = c.in_ok-follow.ensures.grows in
     let inside' : n < length new = slice_get_within new n x (grows n x at) in
     record {
@@ -32,4 +33,5 @@ returns c =
     let kept = c.loop-followed.search.kept in
     let found = c.loop-followed.search.found in
     let all : c.loop-followed.followed ≡ length found = omega (arith, ap length c.items.ensures) in
-    search_ends code kept found c.loop-followed.invariant.search c.loop-followed.invariant.entry (subst (AreFollowed code found) all c.loop-followed.invariant.followed)
+    search_ends code kept found c.loop-followed.invariant.search c.loop-followed.invariant.entry
+    (subst (AreFollowed code found) all c.loop-followed.invariant.followed)

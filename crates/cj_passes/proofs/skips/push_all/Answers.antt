@@ -12,7 +12,8 @@ loop-skip-preserved c =
     let i = c.loop-skip.skip-index in
     let n = c.args.number in
     let all = c.args.skips.now ++ numbered n (reasons c.args.skipped.now) in
-    let so_far = subst (λ (ys : List (ℕ × Skipped)). c.loop-skip.skips ++ numbered n (reasons (drop i ys)) ≡ all) (sym c.items-skip-items.ensures) c.loop-skip.invariant in
+    let so_far = subst (λ (ys : List (ℕ × Skipped)). c.loop-skip.skips ++ numbered n (reasons (drop i ys)) ≡ all)
+    (sym c.items-skip-items.ensures) c.loop-skip.invariant in
     subst (λ (ys : List (ℕ × Skipped)). c.push_reason.new.skips ++ numbered n (reasons (drop (i + 1) ys)) ≡ all) c.items-skip-items.ensures
     (one_skip_more all c.loop-skip.skips c.push_reason.new.skips (drop (i + 1) xs) n _ c.in_ok-push_reason.ensures
     (subst (λ (ys : List (ℕ × Skipped)). c.loop-skip.skips ++ numbered n (reasons ys) ≡ all) (drop_more xs i _ c.loop-skip-test.true) so_far))
@@ -22,6 +23,7 @@ unfolding reasons numbered
 returns c =
     let n = c.args.number in
     let all = c.args.skips.now ++ numbered n (reasons c.args.skipped.now) in
-    let none = drop_of_length-le c.args.skipped.now (subst (λ (ys : List (ℕ × Skipped)). length ys ≤ c.loop-skip.skip-index) c.items-skip-items.ensures c.loop-skip-test.false) in
+    let none = drop_of_length-le c.args.skipped.now
+    (subst (λ (ys : List (ℕ × Skipped)). length ys ≤ c.loop-skip.skip-index) c.items-skip-items.ensures c.loop-skip-test.false) in
     let done = subst (λ (ys : List (ℕ × Skipped)). c.loop-skip.skips ++ numbered n (reasons ys) ≡ all) none c.loop-skip.invariant in
     sym (append-nil c.loop-skip.skips) ∙ done

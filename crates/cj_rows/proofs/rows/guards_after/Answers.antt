@@ -9,7 +9,8 @@ returns-in-None-clause-count c =
 
 pub loop-count-preserved : goal.loop-count-preserved
 loop-count-preserved c =
-    after_step c.args.code.now c.loop-count.count (guards_after c.args.code.now 8 c.args.label) c.loop-count.at c.in-Some.next c.loop-count-test.true (sym c.guard_at.ensures ∙ c.in-Some.is) c.loop-count.invariant
+    after_step c.args.code.now c.loop-count.count (guards_after c.args.code.now 8 c.args.label) c.loop-count.at c.in-Some.next c.loop-count-test.true
+    (sym c.guard_at.ensures ∙ c.in-Some.is) c.loop-count.invariant
 
 pub returns-clause-count : goal.returns-clause-count
 returns-clause-count c =

@@ -17,9 +17,11 @@ loop-from-preserved c =
     let from : Label = record { 0 = n } in
     let f = λ (x : Label). or_none (steps_to code label 8 x) in
     let few : f from ≤ 8 = steps_few code label 8 from in
-    let steps : c.unwrap_or-steps.result ≡ f from = c.unwrap_or-steps.ensures ∙ ap (λ (o : Option ℕ). unwrap_or o 0) c.steps_to.ensures ∙ or_none-unwrap (steps_to code label 8 from) in
+    let steps : c.unwrap_or-steps.result ≡ f from = c.unwrap_or-steps.ensures ∙ ap (λ (o : Option ℕ). unwrap_or o 0) c.steps_to.ensures
+    ∙ or_none-unwrap (steps_to code label 8 from) in
     record {
-      most = greatest_more f n c.loop-from.most c.unwrap_or-steps.result c.greater-most.result from c.loop-from.invariant.most refl steps c.greater-most.ensures;
+      most = greatest_more f n c.loop-from.most c.unwrap_or-steps.result c.greater-most.result from c.loop-from.invariant.most refl steps
+          c.greater-most.ensures;
       few = omega (arith, c.greater-most.ensures, steps);
     }
 

@@ -7,4 +7,5 @@ returns-in_default-clause-kept c = λ no_.
 
 pub set-requires : goal.set-requires
 set-requires c =
-    forget-inside c.in-Some.row c.items.result.now c.args.reg.0 c.known.result c.args.other c.agrees.result c.known.ensures c.items.ensures c.agrees.ensures c.if-agrees.false
+    forget-inside c.in-Some.row c.items.result.now c.args.reg.0 c.known.result c.args.other c.agrees.result c.known.ensures c.items.ensures c.agrees.ensures
+    c.if-agrees.false

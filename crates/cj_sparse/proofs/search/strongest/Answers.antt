@@ -14,5 +14,6 @@ returns c =
     let draft = c.args.draft.now in
     let rows = c.step.new.self.rows.items in
     let work = c.step.new.self.work.items in
-    subst (IsStrongest draft.context draft.code) (sym (c.in_ok-table.ensures ∙ ap₂ (λ (z : Code) (rs : List (Option Row)). map (facts_in z.regs) rs) c.code.ensures.same c.as_slice.ensures.value))
+    subst (IsStrongest draft.context draft.code)
+    (sym (c.in_ok-table.ensures ∙ ap₂ (λ (z : Code) (rs : List (Option Row)). map (facts_in z.regs) rs) c.code.ensures.same c.as_slice.ensures.value))
     (sparse-ends draft.context draft.code rows work c.in_ok-step.ensures.search (c.in_ok-step.ensures.done c.if-branch.false))

@@ -26,6 +26,7 @@ returns c =
     (c.in_ok-row.ensures.told ∙ ap told_by (c.items-2.ensures ∙ c.context.ensures.same))
     (c.in_ok-row.ensures.width ∙ ap (λ (z : Code). z.regs) same)
     named.entry
-    (c.change.ensures.rows ∙ ap₂ (λ (rows : List (Option Row)) (e : ℕ). slice_set rows e (Some row)) (c.in_ok-rows.ensures ∙ ap (λ n. replicate n None) labels) (ap (λ (z : Code). z.entry.0) same))
+    (c.change.ensures.rows ∙ ap₂ (λ (rows : List (Option Row)) (e : ℕ). slice_set rows e (Some row)) (c.in_ok-rows.ensures ∙ ap (λ n. replicate n None) labels)
+    (ap (λ (z : Code). z.entry.0) same))
     (subst (λ (l : Label). LetsWait (none_waits (length code.places)) w l) (ap (λ (z : Code). z.entry) same)
     (subst (λ (v : Waiting). LetsWait v w c.code-code.result.now.entry) (c.in_ok-waiting.ensures.list ∙ ap none_waits labels) c.change.ensures.waits))

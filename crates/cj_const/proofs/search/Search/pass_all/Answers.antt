@@ -22,18 +22,21 @@ pass-requires-in-Two-2-clause-edge c =
 pub pass-requires-in-Two-2-clause-begun : goal.pass-requires-in-Two-2-clause-begun
 pass-requires-in-Two-2-clause-begun c =
     let draft = c.args.draft.now in
-    let all = subst (λ (ns : Successors). IsFollowing draft.context draft.code c.args.self.now.rows c.args.self.now.waiting c.args.label (listed ns)) c.in-Two.is c.requires.following in
+    let all = subst (λ (ns : Successors). IsFollowing draft.context draft.code c.args.self.now.rows c.args.self.now.waiting c.args.label (listed ns))
+    c.in-Two.is c.requires.following in
     begun-of draft.context draft.code c.pass-in-Two.new.self.rows c.pass-in-Two.new.self.waiting c.args.label (c.in-Two.else_to ∷ [])
     (c.in_ok-pass-in-Two.ensures.passed (c.in-Two.else_to ∷ []) all)
 
 pub returns-in_ok-pass-in-One-clause-passed : goal.returns-in_ok-pass-in-One-clause-passed
 returns-in_ok-pass-in-One-clause-passed c =
     let draft = c.args.draft.now in
-    let all = subst (λ (ns : Successors). IsFollowing draft.context draft.code c.args.self.now.rows c.args.self.now.waiting c.args.label (listed ns)) c.in-One.is c.requires.following in
+    let all = subst (λ (ns : Successors). IsFollowing draft.context draft.code c.args.self.now.rows c.args.self.now.waiting c.args.label (listed ns))
+    c.in-One.is c.requires.following in
     c.in_ok-pass-in-One.ensures.passed [] all
 
 pub returns-in_ok-pass-in-Two-2-clause-passed : goal.returns-in_ok-pass-in-Two-2-clause-passed
 returns-in_ok-pass-in-Two-2-clause-passed c =
     let draft = c.args.draft.now in
-    let all = subst (λ (ns : Successors). IsFollowing draft.context draft.code c.args.self.now.rows c.args.self.now.waiting c.args.label (listed ns)) c.in-Two.is c.requires.following in
+    let all = subst (λ (ns : Successors). IsFollowing draft.context draft.code c.args.self.now.rows c.args.self.now.waiting c.args.label (listed ns))
+    c.in-Two.is c.requires.following in
     c.in_ok-pass-in-Two-2.ensures.passed [] (c.in_ok-pass-in-Two.ensures.passed (c.in-Two.else_to ∷ []) all)

@@ -20,7 +20,8 @@ adopt_in-requires-clause-context c c' =
     let x : Fact = c'.fact.result in
     let context : c'.push.new.self ≡ x ∷ [] = c'.in_ok-push.ensures.ok ∙ ap (λ (xs : List Fact). xs ++ x ∷ []) c'.new-context.ensures in
     subst (λ (xs : List Fact). IsContextOf P (record { 0 = 0 }) xs) (sym context)
-    (first_fits (slice_get P.functions 0) c'.function-main.result.now x c'.function-main.ensures.found (c'.is_store.ensures.params c'.if-not-is_store.false) (ap (λ (y : Fact). y.reg.0) c'.fact.ensures))
+    (first_fits (slice_get P.functions 0) c'.function-main.result.now x c'.function-main.ensures.found (c'.is_store.ensures.params c'.if-not-is_store.false)
+    (ap (λ (y : Fact). y.reg.0) c'.fact.ensures))
 
 pub adopt_in-requires-clause-sound : goal.adopt_in-requires-clause-sound
 adopt_in-requires-clause-sound c c' =
@@ -40,5 +41,6 @@ adopt_in-requires-clause-sound c c' =
     let two : reg_count P f ≡ 2 = regs_of_base P f ∙ sym (ap (λ (k : Code). k.regs) is) ∙ c'.is_store.ensures.registers c'.if-not-is_store.false in
     let inside = slice_get_within P.functions 0 c'.function-main.result.now c'.function-main.ensures.found in
     let sound = c'.base_body_is_sound.ensures P c'.push.new.self f c'.program.ensures.well_formed inside in
-    subst (λ (places : List Place). Sound P c'.push.new.self f (record { function = f; regs = 2; entry = record { 0 = 0 }; places = places })) (sym c'.in_ok-places.ensures)
+    subst (λ (places : List Place). Sound P c'.push.new.self f (record { function = f; regs = 2; entry = record { 0 = 0 }; places = places }))
+    (sym c'.in_ok-places.ensures)
     (behind_sound P f c'.push.new.self first sound at two (c'.is_store.ensures.fails c'.if-not-is_store.false))

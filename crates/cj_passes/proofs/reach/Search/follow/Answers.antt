@@ -13,7 +13,12 @@ use Rattle.cj_passes.proofs.reach.Search.follow.Goals as goal
 
 pub bounds-items-label : goal.bounds-items-label
 bounds-items-label c =
-    omega (arith, reached_within c.args.code.now c.args.label c.requires.closed (c.requires.search.reached c.args.label c.requires.found), ap length c.items.ensures)
+    omega (
+      arith,
+      reached_within c.args.code.now c.args.label c.requires.closed (c.requires.search.reached c.args.label c.requires.found),
+      ap length
+          c.items.ensures,
+    )
 
 pub visit_all-requires-clause-within : goal.visit_all-requires-clause-within
 visit_all-requires-clause-within c =

@@ -11,19 +11,39 @@ use Rattle.cj_passes.proofs.reach.Search.visit.Goals as goal
 
 pub bounds-items-to : goal.bounds-items-to
 bounds-items-to c =
-    omega (arith, passed_within c.args.code.now c.args.label c.requires.closed c.requires.within, ap (λ (x : Label). x.0) c.passed-to.ensures, ap length c.items.ensures, c.requires.search.count)
+    omega (
+      arith,
+      passed_within c.args.code.now c.args.label c.requires.closed c.requires.within,
+      ap (λ (x : Label). x.0) c.passed-to.ensures,
+      ap length
+          c.items.ensures,
+      c.requires.search.count,
+    )
 
 pub returns-then-items-to-clause-found : goal.returns-then-items-to-clause-found
 returns-then-items-to-clause-found c =
     let kept = c.args.self.now.kept in
     let to = c.passed-to.result in
-    let inside : to.0 < length kept = omega (arith, passed_within c.args.code.now c.args.label c.requires.closed c.requires.within, ap (λ (x : Label). x.0) c.passed-to.ensures, c.requires.search.count) in
+    let inside : to.0 < length kept = omega (
+      arith,
+      passed_within c.args.code.now c.args.label c.requires.closed c.requires.within,
+      ap
+          (λ (x : Label). x.0) c.passed-to.ensures,
+      c.requires.search.count,
+    ) in
     subst (Contains c.args.self.now.found) c.passed-to.ensures
-    (found_marked c.args.code.now kept c.args.self.now.found to false c.requires.search inside (subst (λ (ks : List Bool). get_or ks to.0 false ≡ true) c.items.ensures c.if-items-to.true))
+    (found_marked c.args.code.now kept c.args.self.now.found to false c.requires.search inside
+    (subst (λ (ks : List Bool). get_or ks to.0 false ≡ true) c.items.ensures c.if-items-to.true))
 
 pub set-requires : goal.set-requires
 set-requires c =
-    omega (arith, passed_within c.args.code.now c.args.label c.requires.closed c.requires.within, ap (λ (x : Label). x.0) c.passed-to.ensures, c.requires.search.count)
+    omega (
+      arith,
+      passed_within c.args.code.now c.args.label c.requires.closed c.requires.within,
+      ap
+          (λ (x : Label). x.0) c.passed-to.ensures,
+      c.requires.search.count,
+    )
 
 pub returns-clause-search : goal.returns-clause-search
 returns-clause-search c =
@@ -31,8 +51,10 @@ returns-clause-search c =
     let kept = c.args.self.now.kept in
     let found = c.args.self.now.found in
     let to = c.passed-to.result in
-    let inside : to.0 < length kept = omega (arith, passed_within code c.args.label c.requires.closed c.requires.within, ap (λ (x : Label). x.0) c.passed-to.ensures, c.requires.search.count) in
-    let unmarked : slice_get kept to.0 ≡ Some false = slice_get-get_or kept to.0 false inside ∙ ap Some (subst (λ (ks : List Bool). get_or ks to.0 false ≡ false) c.items.ensures c.if-items-to.false) in
+    let inside : to.0 < length kept = omega
+    (arith, passed_within code c.args.label c.requires.closed c.requires.within, ap (λ (x : Label). x.0) c.passed-to.ensures, c.requires.search.count) in
+    let unmarked : slice_get kept to.0 ≡ Some false = slice_get-get_or kept to.0 false inside
+    ∙ ap Some (subst (λ (ks : List Bool). get_or ks to.0 false ≡ false) c.items.ensures c.if-items-to.false) in
     let more = search_more code kept found to c.requires.search unmarked inside (subst (Reached code) (sym c.passed-to.ensures) c.requires.reached) in
     subst (λ ks. IsSearch code ks c.push.new.self) (sym c.set.ensures)
     (subst (IsSearch code (slice_set kept to.0 true)) (sym c.in_ok-push.ensures.ok) more)

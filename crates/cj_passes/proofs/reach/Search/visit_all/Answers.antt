@@ -18,6 +18,8 @@ pub returns-in_ok-visit-in-Two-2-clause-found : goal.returns-in_ok-visit-in-Two-
 returns-in_ok-visit-in-Two-2-clause-found c =
     let code = c.args.code.now in
     let found = c.visit-in-Two-2.new.self.found in
-    let first = grows_contains c.visit-in-Two.new.self.found found (passed code c.in-Two.then_to) c.in_ok-visit-in-Two-2.ensures.grows c.in_ok-visit-in-Two.ensures.found in
+    let first = grows_contains c.visit-in-Two.new.self.found found (passed code c.in-Two.then_to) c.in_ok-visit-in-Two-2.ensures.grows
+    c.in_ok-visit-in-Two.ensures.found in
     subst (λ n. AreLed code found (listed n)) (sym c.in-Two.is)
-    (led_more code found c.in-Two.then_to (c.in-Two.else_to ∷ []) first (led_more code found c.in-Two.else_to [] c.in_ok-visit-in-Two-2.ensures.found (led_none code found)))
+    (led_more code found c.in-Two.then_to (c.in-Two.else_to ∷ []) first
+    (led_more code found c.in-Two.else_to [] c.in_ok-visit-in-Two-2.ensures.found (led_none code found)))

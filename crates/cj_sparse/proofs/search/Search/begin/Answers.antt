@@ -25,6 +25,8 @@ returns c =
     (c.in_ok-row.ensures.told ∙ ap told_by (c.items.ensures ∙ c.context.ensures.same))
     (c.in_ok-row.ensures.width ∙ ap (λ (z : Code). z.regs) same)
     named.entry
-    (c.in_ok-reach.ensures.rows ∙ ap₂ (λ (rows : List (Option Row)) (e : ℕ). slice_set rows e (Some row)) (c.in_ok-rows.ensures ∙ ap (λ n. replicate n None) labels) (ap (λ (z : Code). z.entry.0) same))
+    (c.in_ok-reach.ensures.rows
+    ∙ ap₂ (λ (rows : List (Option Row)) (e : ℕ). slice_set rows e (Some row)) (c.in_ok-rows.ensures ∙ ap (λ n. replicate n None) labels)
+    (ap (λ (z : Code). z.entry.0) same))
     c.reach.new.self.work.items
     (c.in_ok-reach.ensures.work ∙ ap₂ (λ (ws : List Work) (l : Label). ws ++ Reached l ∷ []) c.new-work.ensures.items (ap (λ (z : Code). z.entry) same))

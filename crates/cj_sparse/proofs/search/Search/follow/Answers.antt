@@ -40,7 +40,8 @@ returns-in_ok-pass-in-Two-2-clause-goes c =
     let old = c.args.self.now in
     let one = c.pass-in-Two.new.self in
     let two = c.pass-in-Two-2.new.self in
-    goes-trans draft.context draft.code old.rows.items one.rows.items two.rows.items old.work.items one.work.items two.work.items c.in_ok-pass-in-Two.ensures.goes c.in_ok-pass-in-Two-2.ensures.goes
+    goes-trans draft.context draft.code old.rows.items one.rows.items two.rows.items old.work.items one.work.items two.work.items
+    c.in_ok-pass-in-Two.ensures.goes c.in_ok-pass-in-Two-2.ensures.goes
 
 pub returns-in_ok-pass-in-Two-2-clause-passed : goal.returns-in_ok-pass-in-Two-2-clause-passed
 returns-in_ok-pass-in-Two-2-clause-passed c =
@@ -49,6 +50,7 @@ returns-in_ok-pass-in-Two-2-clause-passed c =
     let two = c.pass-in-Two-2.new.self in
     let label = label_of c.args.item in
     let P = IsPassed code two.rows.items two.work.items label in
-    let first = passed-lowered code one.rows.items two.rows.items one.work.items two.work.items label c.in-Two.then_to c.in_ok-pass-in-Two-2.ensures.goes.lowers c.in_ok-pass-in-Two.ensures.passed in
+    let first = passed-lowered code one.rows.items two.rows.items one.work.items two.work.items label c.in-Two.then_to
+    c.in_ok-pass-in-Two-2.ensures.goes.lowers c.in_ok-pass-in-Two.ensures.passed in
     subst (λ (ns : Successors). All P (listed ns)) (sym c.in-Two.is)
     (All-cons P c.in-Two.then_to (c.in-Two.else_to ∷ []) first (All-cons P c.in-Two.else_to [] c.in_ok-pass-in-Two-2.ensures.passed (All-nil P)))

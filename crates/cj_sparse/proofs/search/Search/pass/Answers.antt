@@ -17,8 +17,10 @@ pass_loss-requires-clause-rests c =
 
 pub returns-then-not-reads-clause-passed : goal.returns-then-not-reads-clause-passed
 returns-then-not-reads-clause-passed c =
-    subst (λ (l : Label). OnOk c.pass_loss.result (IsPassed c.args.draft.now.code c.pass_loss.new.self.rows.items c.pass_loss.new.self.work.items l c.args.to)) c.label-label.ensures c.pass_loss.ensures.passed
+    subst (λ (l : Label). OnOk c.pass_loss.result (IsPassed c.args.draft.now.code c.pass_loss.new.self.rows.items c.pass_loss.new.self.work.items l c.args.to))
+    c.label-label.ensures c.pass_loss.ensures.passed
 
 pub returns-clause-passed : goal.returns-clause-passed
 returns-clause-passed c =
-    subst (λ (l : Label). OnOk c.pass_all.result (IsPassed c.args.draft.now.code c.pass_all.new.self.rows.items c.pass_all.new.self.work.items l c.args.to)) c.label-label.ensures c.pass_all.ensures.passed
+    subst (λ (l : Label). OnOk c.pass_all.result (IsPassed c.args.draft.now.code c.pass_all.new.self.rows.items c.pass_all.new.self.work.items l c.args.to))
+    c.label-label.ensures c.pass_all.ensures.passed

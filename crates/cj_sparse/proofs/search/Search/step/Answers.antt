@@ -13,7 +13,9 @@ follow-requires-clause-edges c =
     let item = c.in-Some.item in
     let p = c.index-items-label.result in
     let mine = first-item draft.context draft.code old.rows.items old.work.items c.pop_front.new.self.items item c.in-Some.ensures.items c.requires in
-    let at : place_at draft.code (label_of item) ≡ Some p = item-place draft.code c.code.result.now c.items.result.now old.rows.items item c.label.result p mine c.label.ensures c.code.ensures.same c.items.ensures c.index-items-label.is in
+    let at : place_at draft.code (label_of item)
+    ≡ Some p = item-place draft.code c.code.result.now c.items.result.now old.rows.items item c.label.result p mine c.label.ensures c.code.ensures.same
+    c.items.ensures c.index-items-label.is in
     edges-of draft.code (label_of item) p (listed c.successors.result) at c.successors.ensures
 
 pub follow-requires-clause-rest : goal.follow-requires-clause-rest
@@ -23,8 +25,11 @@ follow-requires-clause-rest c =
     let item = c.in-Some.item in
     let p = c.index-items-label.result in
     let mine = first-item draft.context draft.code old.rows.items old.work.items c.pop_front.new.self.items item c.in-Some.ensures.items c.requires in
-    let at : place_at draft.code (label_of item) ≡ Some p = item-place draft.code c.code.result.now c.items.result.now old.rows.items item c.label.result p mine c.label.ensures c.code.ensures.same c.items.ensures c.index-items-label.is in
-    first-rests draft.context draft.code old.rows.items old.work.items c.pop_front.new.self.items item c.in-Some.ensures.items c.requires p (listed c.successors.result) at c.successors.ensures
+    let at : place_at draft.code (label_of item)
+    ≡ Some p = item-place draft.code c.code.result.now c.items.result.now old.rows.items item c.label.result p mine c.label.ensures c.code.ensures.same
+    c.items.ensures c.index-items-label.is in
+    first-rests draft.context draft.code old.rows.items old.work.items c.pop_front.new.self.items item c.in-Some.ensures.items c.requires p
+    (listed c.successors.result) at c.successors.ensures
 
 pub returns-clause-search : goal.returns-clause-search
 returns-clause-search c =
@@ -34,11 +39,15 @@ returns-clause-search c =
     let item = c.in-Some.item in
     let p = c.index-items-label.result in
     let mine = first-item draft.context draft.code old.rows.items old.work.items c.pop_front.new.self.items item c.in-Some.ensures.items c.requires in
-    let at : place_at draft.code (label_of item) ≡ Some p = item-place draft.code c.code.result.now c.items.result.now old.rows.items item c.label.result p mine c.label.ensures c.code.ensures.same c.items.ensures c.index-items-label.is in
-    step-search draft.context draft.code old.rows.items old.work.items c.pop_front.new.self.items item c.in-Some.ensures.items c.requires new.rows.items new.work.items p (listed c.successors.result) at c.successors.ensures c.in_ok-follow.ensures.goes c.in_ok-follow.ensures.passed
+    let at : place_at draft.code (label_of item)
+    ≡ Some p = item-place draft.code c.code.result.now c.items.result.now old.rows.items item c.label.result p mine c.label.ensures c.code.ensures.same
+    c.items.ensures c.index-items-label.is in
+    step-search draft.context draft.code old.rows.items old.work.items c.pop_front.new.self.items item c.in-Some.ensures.items c.requires new.rows.items
+    new.work.items p (listed c.successors.result) at c.successors.ensures c.in_ok-follow.ensures.goes c.in_ok-follow.ensures.passed
 
 pub returns-clause-work : goal.returns-clause-work
 returns-clause-work c = λ more.
     let draft = c.args.draft.now in
     let old = c.args.self.now in
-    step-less draft.context draft.code old.rows.items old.work.items c.pop_front.new.self.items c.in-Some.item c.in-Some.ensures.items c.requires c.follow.new.self.rows.items c.follow.new.self.work.items c.in_ok-follow.ensures.goes
+    step-less draft.context draft.code old.rows.items old.work.items c.pop_front.new.self.items c.in-Some.item c.in-Some.ensures.items c.requires
+    c.follow.new.self.rows.items c.follow.new.self.work.items c.in_ok-follow.ensures.goes

@@ -11,4 +11,5 @@ pub returns-in-Store : goal.returns-in-Store
 returns-in-Store c =
     let s = c.in-Store in
     λ e regs m. subst (λ (i : VInstr). version_effect i regs m ≡ Plain (Faults (BadAddress (negsuc 0)))) (sym s.is)
-    (subst (λ (a : Operand). version_effect (Store a s.value s.next) regs m ≡ Plain (Faults (BadAddress (negsuc 0)))) (sym (c.is_nowhere.ensures e)) (store_fails s.value s.next regs m))
+    (subst (λ (a : Operand). version_effect (Store a s.value s.next) regs m ≡ Plain (Faults (BadAddress (negsuc 0)))) (sym (c.is_nowhere.ensures e))
+    (store_fails s.value s.next regs m))
