@@ -22,7 +22,8 @@ ends_behind all ts t e =
     let f : ts ≡ drop 1 (drop (length all - suc (length ts)) all) = ap (drop 1) e in
     f ∙ (drop-drop 1 (length all - suc (length ts)) all ∙ ap (λ k. drop k all) (sym m))
 
-ends_further : {X : Type 0} (all : List X) (count passed : ℕ) → count ≤ length all → passed ≤ count → drop passed (drop (length all - count) all) ≡ drop (length all - (count - passed)) all
+ends_further : {X : Type 0} (all : List X) (count passed : ℕ) → count ≤ length all → passed ≤ count →
+    drop passed (drop (length all - count) all) ≡ drop (length all - (count - passed)) all
 ends_further all count passed h g =
     let m : (length all - count) + passed ≡ length all - (count - passed) = omega arith in
     drop-drop passed (length all - count) all ∙ ap (λ k. drop k all) m
@@ -30,20 +31,24 @@ ends_further all count passed h g =
 -- the first token of a text, and the one behind a token of it
 pub first_token : (bytes : List ℕ) (t : Item) → items 0 1 0 bytes ≡ items_from bytes t → IsToken bytes t
 first_token bytes t e =
-    let n : length (items_of bytes) - length (items_from bytes t) ≡ 0 = let m : length (items_of bytes) ≡ length (items_from bytes t) = ap length e in omega arith in
+    let m : length (items_of bytes) ≡ length (items_from bytes t) = ap length e in
+    let n : length (items_of bytes) - length (items_from bytes t) ≡ 0 = omega arith in
     rw n (sym e)
 
-pub next_token : (bytes : List ℕ) (t u : Item) → is_terminal End t.lexeme ≡ false → items 0 t.lexeme.line t.stop (drop t.stop bytes) ≡ items_from bytes u → IsToken bytes t → IsToken bytes u
+pub next_token : (bytes : List ℕ) (t u : Item) → is_terminal End t.lexeme ≡ false →
+    items 0 t.lexeme.line t.stop (drop t.stop bytes) ≡ items_from bytes u → IsToken bytes t → IsToken bytes u
 unfolding items_from
 next_token bytes t u n e h = ends_behind (items_of bytes) (items_from bytes u) t (rw (n, e) at h)
 
 -- what the next token is, where the end may be taken
-pub ahead_is_end : (taken : Bool) (bytes : List ℕ) (t : Item) → (taken ≡ true → is_terminal End t.lexeme ≡ true) → is_terminal End (front (view taken bytes t)) ≡ true → is_terminal End t.lexeme ≡ true
+pub ahead_is_end : (taken : Bool) (bytes : List ℕ) (t : Item) → (taken ≡ true → is_terminal End t.lexeme ≡ true) →
+    is_terminal End (front (view taken bytes t)) ≡ true → is_terminal End t.lexeme ≡ true
 unfolding items_from front
 ahead_is_end true bytes t h e = h refl
 ahead_is_end false bytes t h e = e
 
-pub ahead_no_end : (taken : Bool) (bytes : List ℕ) (t : Item) → is_terminal End (front (view taken bytes t)) ≡ false → (taken ≡ false) × (is_terminal End t.lexeme ≡ false)
+pub ahead_no_end : (taken : Bool) (bytes : List ℕ) (t : Item) →
+    is_terminal End (front (view taken bytes t)) ≡ false → (taken ≡ false) × (is_terminal End t.lexeme ≡ false)
 unfolding items_from front
 ahead_no_end true bytes t e = cc
 ahead_no_end false bytes t e = (refl, e)
@@ -57,12 +62,14 @@ not_taken true f t = cc
 not_taken false f t = cc
 
 -- how many tokens are left, and which
-as_many : (taken : Bool) (bytes : List ℕ) (t : Item) → (taken ≡ true → is_terminal End t.lexeme ≡ true) → length (items_from bytes t) ≡ max 1 (length (view taken bytes t))
+as_many : (taken : Bool) (bytes : List ℕ) (t : Item) → (taken ≡ true → is_terminal End t.lexeme ≡ true) →
+    length (items_from bytes t) ≡ max 1 (length (view taken bytes t))
 unfolding items_from
 as_many true bytes t e = rw (e refl) refl
 as_many false bytes t e = rw length-map (omega arith)
 
-pub last_ones : (taken : Bool) (bytes : List ℕ) (t : Item) → IsToken bytes t → (taken ≡ true → is_terminal End t.lexeme ≡ true) → items_from bytes t ≡ last_items (max 1 (length (view taken bytes t))) bytes
+pub last_ones : (taken : Bool) (bytes : List ℕ) (t : Item) → IsToken bytes t → (taken ≡ true → is_terminal End t.lexeme ≡ true) →
+    items_from bytes t ≡ last_items (max 1 (length (view taken bytes t))) bytes
 last_ones taken bytes t h e = h ∙ ap (λ k. last_items k bytes) (as_many taken bytes t e)
 
 pub ones_behind : (taken : Bool) (bytes : List ℕ) (t : Item) → IsToken bytes t → (taken ≡ true → is_terminal End t.lexeme ≡ true) →

@@ -40,9 +40,11 @@ next_is = refl
 pub returns-in-Ok : goal.returns-in-Ok
 returns-in-Ok c =
     let tokens : Tokens = c.shape.new.self in
-    let behind : left tokens ≡ rest = only_rest (left tokens) (subst (λ (ts : List Lexeme). GoesPast ts (left tokens)) c.of-tokens.ensures.left c.in-Ok.ensures.past) in
+    let behind : left tokens ≡ rest =
+    only_rest (left tokens) (subst (λ (ts : List Lexeme). GoesPast ts (left tokens)) c.of-tokens.ensures.left c.in-Ok.ensures.past) in
     let same : source tokens ≡ text = c.in-Ok.ensures.text ∙ c.of-tokens.ensures.source in
     let items : stream tokens ≡ last_items (max 1 (length rest)) text =
-    c.places_are_told.ensures ∙ (ap (λ ts. last_items (max 1 (length ts)) (source tokens)) behind ∙ ap (λ bytes. last_items (max 1 (length rest)) bytes) same) in
+    c.places_are_told.ensures
+    ∙ (ap (λ ts. last_items (max 1 (length ts)) (source tokens)) behind ∙ ap (λ bytes. last_items (max 1 (length rest)) bytes) same) in
     let answer : c.next.result ≡ Ok calls = c.next.ensures.answer ∙ (ap next_of items ∙ next_is) in
     subst (λ (r : Result Token Refused). IfOk r (λ token. token ≡ calls)) (sym answer) refl

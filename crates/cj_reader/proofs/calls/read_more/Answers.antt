@@ -7,6 +7,8 @@ use Rattle.cj_reader.proofs.calls.read_more.Goals as goal
 
 pub more-preserved : goal.more-preserved
 more-preserved c = record {
-  reads = c.more.invariant.reads ∙ each_goes (next_operand_at (scope_in c.args.scope)) c.args.count c.more.k c.more.operands c.add_operand.new.operands (left c.more.tokens) (left c.add_operand.new.tokens) c.more-test.true c.in-Ok.ensures.reads;
+  reads = c.more.invariant.reads
+      ∙ each_goes (next_operand_at (scope_in c.args.scope)) c.args.count c.more.k c.more.operands c.add_operand.new.operands
+      (left c.more.tokens) (left c.add_operand.new.tokens) c.more-test.true c.in-Ok.ensures.reads;
   source = c.in-Ok.ensures.source ∙ c.more.invariant.source;
 }

@@ -8,6 +8,7 @@ use Rattle.cj_reader.proofs.calls.read_more.Given as goal
 abbrev pub invariant-more : goal.invariant-more
 invariant-more l =
     record {
-      reads : each_at (next_operand_at (scope_in l.scope)) l.count l.fn.operands (left l.fn.tokens) ≡ each_at (next_operand_at (scope_in l.scope)) (l.count - l.k) l.operands (left l.tokens);
+      reads : each_at (next_operand_at (scope_in l.scope)) l.count l.fn.operands (left l.fn.tokens)
+          ≡ each_at (next_operand_at (scope_in l.scope)) (l.count - l.k) l.operands (left l.tokens);
       source : source l.tokens ≡ source l.fn.tokens;
     }

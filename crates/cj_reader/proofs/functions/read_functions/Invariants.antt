@@ -8,6 +8,7 @@ use Rattle.cj_reader.proofs.functions.read_functions.Given as goal
 abbrev pub invariant-more : goal.invariant-more
 invariant-more l =
     record {
-      reads : each_at (function_at (function_in l.functions)) l.count [] (left l.fn.tokens) ≡ each_at (function_at (function_in l.functions)) (l.count - l.k) l.all (left l.tokens);
+      reads : each_at (function_at (function_in l.functions)) l.count [] (left l.fn.tokens)
+          ≡ each_at (function_at (function_in l.functions)) (l.count - l.k) l.all (left l.tokens);
       source : source l.tokens ≡ source l.fn.tokens;
     }

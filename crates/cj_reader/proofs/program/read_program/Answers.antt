@@ -16,7 +16,8 @@ adopt-requires c =
 
 pub returns-clause-read : goal.returns-clause-read
 returns-clause-read c = λ rest past.
-    sym (program_is (left c.args.tokens.now) rest past) ∙ (c.in-Ok.ensures.reads ∙ ap (λ (p : Program). let r : Read Program = Ok (p, left c.read_all.new.tokens) in r) (sym c.adopt.ensures))
+    sym (program_is (left c.args.tokens.now) rest past)
+    ∙ (c.in-Ok.ensures.reads ∙ ap (λ (p : Program). let r : Read Program = Ok (p, left c.read_all.new.tokens) in r) (sym c.adopt.ensures))
 
 pub returns-clause-end : goal.returns-clause-end
 returns-clause-end c = end_behind (left c.args.tokens.now) c.in-Ok.program (left c.read_all.new.tokens) c.requires c.in-Ok.ensures.reads

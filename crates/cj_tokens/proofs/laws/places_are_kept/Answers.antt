@@ -9,4 +9,6 @@ unfolding left source stream
 returns c =
     let old : Tokens = c.args.old.now in
     let new : Tokens = c.args.new.now in
-    ones_behind old.is_past_end old.bytes.now (placed old.ahead) old.token old.end new.is_past_end new.bytes.now (placed new.ahead) new.token new.end c.args.passed c.requires.source c.requires.left c.requires.more
+    ones_behind old.is_past_end old.bytes.now (placed old.ahead) old.token old.end
+    new.is_past_end new.bytes.now (placed new.ahead) new.token new.end
+    c.args.passed c.requires.source c.requires.left c.requires.more

@@ -7,7 +7,8 @@ use Rattle.cj_tokens.proofs.tokens.Tokens.expect.Goals as goal
 
 pub returns-then-self-clause-taken : goal.returns-then-self-clause-taken
 unfolding left stream
-returns-then-self-clause-taken c = pass_taken c.args.self.now.is_past_end c.args.self.now.bytes.now (placed c.args.self.now.ahead) (Is c.args.terminal) c.if-self.true
+returns-then-self-clause-taken c =
+    pass_taken c.args.self.now.is_past_end c.args.self.now.bytes.now (placed c.args.self.now.ahead) (Is c.args.terminal) c.if-self.true
 
 pub returns-then-is_at-clause-taken : goal.returns-then-is_at-clause-taken
 unfolding left stream

@@ -15,7 +15,8 @@ invariant_of-self c =
     record {
       within = c.behind-self.ensures.within;
       well = c.behind-self.ensures.well;
-      token = next_token c.args.self.now.bytes.now t (placed c.behind-self.result) (passed_no_end t.lexeme.terminal p) c.behind-self.ensures.found c.args.self.now.token;
+      token = next_token c.args.self.now.bytes.now t (placed c.behind-self.result)
+          (passed_no_end t.lexeme.terminal p) c.behind-self.ensures.found c.args.self.now.token;
       end = not_taken c.args.self.now.is_past_end (passed_not_taken c.args.self.now.is_past_end t c.args.self.now.end p);
     }
 

@@ -13,7 +13,8 @@ invariant_of-self c = record {
   within = c.args.self.now.within;
   well = c.args.self.now.well;
   token = c.args.self.now.token;
-  end = λ taken. ahead_is_end c.args.self.now.is_past_end c.args.self.now.bytes.now (placed c.args.self.now.ahead) c.args.self.now.end (sym c.is_at.ensures ∙ c.if-is_at.true);
+  end = λ taken. ahead_is_end c.args.self.now.is_past_end c.args.self.now.bytes.now (placed c.args.self.now.ahead)
+      c.args.self.now.end (sym c.is_at.ensures ∙ c.if-is_at.true);
 }
 
 pub invariant_of-self-else-is_at : goal.invariant_of-self-else-is_at
@@ -24,7 +25,8 @@ invariant_of-self-else-is_at c =
     record {
       within = c.behind-self.ensures.within;
       well = c.behind-self.ensures.well;
-      token = next_token c.args.self.now.bytes.now (placed c.args.self.now.ahead) (placed c.behind-self.result) n.1 c.behind-self.ensures.found c.args.self.now.token;
+      token = next_token c.args.self.now.bytes.now (placed c.args.self.now.ahead)
+          (placed c.behind-self.result) n.1 c.behind-self.ensures.found c.args.self.now.token;
       end = not_taken c.args.self.now.is_past_end n.0;
     }
 
