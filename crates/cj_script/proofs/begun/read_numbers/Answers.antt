@@ -15,9 +15,11 @@ numbers-preserved c =
     let n : (front (left c.numbers.tokens)).number ≡ c.take-token.result.number = ap (λ t. t.number) (sym c.take-token.ensures.token) in
     let f : SFits w64 c.take-token.result.number = search rules in
     let p : c.push.new.self ≡ c.numbers.numbers ++ c.take-token.result.number ∷ [] = simp to_z-of_z at c.in_ok-push.ensures.ok in
-    let turn : numbers_at (left c.numbers.tokens) ≡ (front (left c.numbers.tokens)).number ∷ numbers_at (behind (left c.numbers.tokens)) = numbers_turn (left c.numbers.tokens) h in
+    let turn : numbers_at (left c.numbers.tokens) ≡ (front (left c.numbers.tokens)).number ∷ numbers_at (behind (left c.numbers.tokens)) =
+    numbers_turn (left c.numbers.tokens) h in
     record {
-      numbers = c.numbers.invariant.numbers ∙ rw (turn, n, p, c.take-token.ensures.left) (sym (append_assoc c.numbers.numbers (c.take-token.result.number ∷ []) (numbers_at (behind (left c.numbers.tokens)))));
+      numbers = c.numbers.invariant.numbers ∙ rw (turn, n, p, c.take-token.ensures.left)
+          (sym (append_assoc c.numbers.numbers (c.take-token.result.number ∷ []) (numbers_at (behind (left c.numbers.tokens)))));
       behind = c.numbers.invariant.behind ∙ rw c.take-token.ensures.left (behind_turn (left c.numbers.tokens) h);
       source = c.take-token.ensures.source ∙ c.numbers.invariant.source;
     }
