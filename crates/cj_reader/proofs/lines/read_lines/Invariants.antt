@@ -8,6 +8,7 @@ use Rattle.cj_reader.proofs.lines.read_lines.Given as goal
 abbrev pub invariant-more : goal.invariant-more
 invariant-more l =
     record {
-      reads : each_at (line_at (scope_in l.scope)) l.count [] (left l.fn.tokens) ≡ each_at (line_at (scope_in l.scope)) (l.count - l.k) l.lines (left l.tokens);
+      reads : each_at (line_at (scope_in l.scope)) l.count [] (left l.fn.tokens)
+          ≡ each_at (line_at (scope_in l.scope)) (l.count - l.k) l.lines (left l.tokens);
       source : source l.tokens ≡ source l.fn.tokens;
     }
