@@ -113,6 +113,5 @@ pub(crate) fn together(old: &Facts, facts: &Facts, regs: u32) -> Result<Facts, N
     };
     let one = row_of(old.allocator(), old.items(), regs)?;
     let other = row_of(old.allocator(), facts.items(), regs)?;
-    let made = together_of(&one, &other, regs)?;
-    Ok(made)
+    together_of(&one, &other, regs)
 }

@@ -130,8 +130,7 @@ fn folded_guards(row: &Row, guards: &Guards) -> Result<Guards, NoMemory>
         made.push(Guard::Never)?;
         return Ok(made);
     }
-    let made = open_guards(row, guards)?;
-    Ok(made)
+    open_guards(row, guards)
 }
 
 /// Folds an instruction over what the row knows.
