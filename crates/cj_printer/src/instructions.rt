@@ -74,19 +74,12 @@ fn push_instr(
             dest,
             address,
             next,
-        } => {
-            push_assign(text, function, b"load", *dest)?;
-            push_cell(text, function, address)?;
-            push_target(text, function, *next)
-        }
+        } => push_load(text, function, *dest, address, *next),
         Instr::Store {
             address,
             value,
             next,
-        } => {
-            push_stored(text, function, address, value)?;
-            push_target(text, function, *next)
-        }
+        } => push_store(text, function, address, value, *next),
         Instr::Fail { text: words } => push_fail(text, words.bytes()),
     }
 }
@@ -136,19 +129,36 @@ fn push_cell(text: &mut Vec<u8>, function: &Function, address: &Operand) -> Resu
     push_piece(text, Gap::Glued, b"]")
 }
 
-// `store [a] = v`
-fn push_stored(
+// `load r = [a] -> L`
+fn push_load(
+    text: &mut Vec<u8>,
+    function: &Function,
+    dest: Reg,
+    address: &Operand,
+    next: Label,
+) -> Result<(), NoMemory>
+    ensures { OnOk result (text.new.items ≡ text.old.items ++ pieces_text (assign_pieces function.now (codes "load") dest ++ cell_pieces function.now address.now ++ target_pieces function.now next)) }
+{
+    push_assign(text, function, b"load", dest)?;
+    push_cell(text, function, address)?;
+    push_target(text, function, next)
+}
+
+// `store [a] = v -> L`
+fn push_store(
     text: &mut Vec<u8>,
     function: &Function,
     address: &Operand,
     value: &Operand,
+    next: Label,
 ) -> Result<(), NoMemory>
-    ensures { OnOk result (text.new.items ≡ text.old.items ++ pieces_text (blank (codes "store") ∷ cell_pieces function.now address.now ++ blank (codes "=") ∷ blank (operand_text function.now value.now) ∷ [])) }
+    ensures { OnOk result (text.new.items ≡ text.old.items ++ pieces_text (blank (codes "store") ∷ cell_pieces function.now address.now ++ blank (codes "=") ∷ blank (operand_text function.now value.now) ∷ target_pieces function.now next)) }
 {
     push_piece(text, Gap::Blank, b"store")?;
     push_cell(text, function, address)?;
     push_piece(text, Gap::Blank, b"=")?;
-    push_operand(text, Gap::Blank, function, value)
+    push_operand(text, Gap::Blank, function, value)?;
+    push_target(text, function, next)
 }
 
 // `f(a, b)`
