@@ -1,5 +1,6 @@
 -- What R, the map of the regions that a seat has read whole, has.
-use Rattle.std.proofs.Common.{◌≡◌, ◌∙◌, refl, sym, ap, arith, inl, inr, ⊎_elim, ℕ, Bool, true, false, List, [], ◌∷◌, length, Option, Some, None, if◌then◌else◌, ◌&&◌}
+use Rattle.std.proofs.Common.{◌≡◌, ◌∙◌, refl, sym, ap, arith, inl, inr, ⊎_elim, ℕ, Bool, true, false, if◌then◌else◌, ◌&&◌}
+use Rattle.std.proofs.Common.{List, [], ◌∷◌, length, Option, Some, None}
 use Rattle.std.specs.Prelude.{◌==◌}
 use Rattle.std.specs.Option.{option_and_then}
 use Rattle.std.proofs.lemmas.Bool.Decides.{nat_tests}
@@ -26,19 +27,25 @@ all_four : (a b c d e f g h : ℕ) → a ≡ b → c ≡ d → e ≡ f → g ≡
 all_four a b c d e f g h p q r s = grind (arith, nat_tests)
 
 -- a whole region is found, or another one at the same offset
-pub first_whole : (c : Cell) (offset : ℕ) (rs : List Region) (x : Region) → Has rs x → is_whole_at c offset x ≡ true → (y : Region) × Has rs y × (y.offset ≡ offset) × (length y.read ≡ y.len) × (words_at c offset rs ≡ Some y.read)
+pub first_whole : (c : Cell) (offset : ℕ) (rs : List Region) (x : Region) → Has rs x → is_whole_at c offset x ≡ true
+    → (y : Region) × Has rs y × (y.offset ≡ offset) × (length y.read ≡ y.len) × (words_at c offset rs ≡ Some y.read)
 unfolding words_at
 first_whole c offset [] x here is = absurd here
 first_whole c offset (r ∷ rs) x here is = by (is_whole_at c offset r) refl (first_whole c offset rs x)
   where
     Later : Type 0
-    Later = Has rs x → is_whole_at c offset x ≡ true → (y : Region) × Has rs y × (y.offset ≡ offset) × (length y.read ≡ y.len) × (words_at c offset rs ≡ Some y.read)
+    Later =
+        Has rs x → is_whole_at c offset x ≡ true → (y : Region) × Has rs y × (y.offset ≡ offset) × (length y.read ≡ y.len) × (words_at c offset rs ≡ Some y.read)
 
     Found : Type 0
-    Found = (y : Region) × Has (r ∷ rs) y × (y.offset ≡ offset) × (length y.read ≡ y.len) × ((if is_whole_at c offset r then Some r.read else words_at c offset rs) ≡ Some y.read)
+    Found =
+        (y : Region) × Has (r ∷ rs) y × (y.offset ≡ offset) × (length y.read ≡ y.len)
+        × ((if is_whole_at c offset r then Some r.read else words_at c offset rs) ≡ Some y.read)
 
     by : (b : Bool) → is_whole_at c offset r ≡ b → Later → Found
-    by true at later = let q = four r.cell.function.0 c.function.0 r.cell.slot c.slot r.offset offset (length r.read) r.len at in (r, inl refl, q.2, q.3, ap (λ (b : Bool). if b then Some r.read else words_at c offset rs) at)
+    by true at later =
+        let q = four r.cell.function.0 c.function.0 r.cell.slot c.slot r.offset offset (length r.read) r.len at in
+        (r, inl refl, q.2, q.3, ap (λ (b : Bool). if b then Some r.read else words_at c offset rs) at)
     by false at later = ⊎_elim
         (λ (e : r ≡ x). let never : false ≡ true = sym at ∙ (ap (is_whole_at c offset) e ∙ is) in absurd cc)
         (λ (t : Has rs x). let q = later t is in (q.0, inr q.1, q.2, q.3, ap (λ (b : Bool). if b then Some r.read else words_at c offset rs) at ∙ q.4))
@@ -55,18 +62,22 @@ code_is v f offset code ok h =
     let read = h.1.5 in
     let count : length x.read ≡ length h.0 = ap length read in
     let whole : length x.read ≡ x.len = omega arith in
-    let is = all_four x.cell.function.0 f.0 x.cell.slot 0 x.offset offset (length x.read) x.len (ap (λ (c : Cell). c.function.0) cell) (ap (λ (c : Cell). c.slot) cell) at whole in
+    let is = all_four x.cell.function.0 f.0 x.cell.slot 0 x.offset offset (length x.read) x.len
+    (ap (λ (c : Cell). c.function.0) cell) (ap (λ (c : Cell). c.slot) cell) at whole in
     let y = first_whole (main_of f) offset v.regions x h.1.1 is in
     let same = (ok.sound.agree x y.0 h.1.1 y.1 (at ∙ sym y.2)).1 whole y.3 in
     ap (option_and_then decoded) (y.4 ∙ ap (λ (ws : List ℕ). Some ws) (sym same ∙ read)) ∙ (decoded_exactly h.0 (decoded h.0) refl code).1 h.2
 
 -- and the map has no other
-found_at : (c : Cell) (offset : ℕ) (rs : List Region) (words : List ℕ) → words_at c offset rs ≡ Some words → (x : Region) × Has rs x × (is_whole_at c offset x ≡ true) × (x.read ≡ words)
+found_at : (c : Cell) (offset : ℕ) (rs : List Region) (words : List ℕ) → words_at c offset rs ≡ Some words
+    → (x : Region) × Has rs x × (is_whole_at c offset x ≡ true) × (x.read ≡ words)
 unfolding words_at
 found_at c offset [] words e = let never : None ≡ Some words = e in absurd cc
 found_at c offset (r ∷ rs) words e = by (is_whole_at c offset r) refl e (found_at c offset rs words)
   where
-    by : (b : Bool) → is_whole_at c offset r ≡ b → (if b then Some r.read else words_at c offset rs) ≡ Some words → (words_at c offset rs ≡ Some words → (x : Region) × Has rs x × (is_whole_at c offset x ≡ true) × (x.read ≡ words)) → (x : Region) × Has (r ∷ rs) x × (is_whole_at c offset x ≡ true) × (x.read ≡ words)
+    by : (b : Bool) → is_whole_at c offset r ≡ b → (if b then Some r.read else words_at c offset rs) ≡ Some words
+        → (words_at c offset rs ≡ Some words → (x : Region) × Has rs x × (is_whole_at c offset x ≡ true) × (x.read ≡ words))
+        → (x : Region) × Has (r ∷ rs) x × (is_whole_at c offset x ≡ true) × (x.read ≡ words)
     by true at here rest = (r, inl refl, at, cc)
     by false at later rest = let q = rest later in (q.0, inr q.1, q.2, q.3)
 

@@ -1,3 +1,5 @@
 pub mod Known
 pub mod Growth
 pub mod Rising
+pub mod Counting
+pub mod Calling

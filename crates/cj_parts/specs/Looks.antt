@@ -1,11 +1,12 @@
 -- Lookups, as a seat keeps them and as reports tell them.
-use Rattle.std.specs.Prelude.{◌≡◌, ℕ, ◌≤◌, List, [], ◌∷◌, ◌++◌, All}
+use Rattle.std.specs.Prelude.{◌≡◌, ℕ, ◌≤◌, ◌⊎◌, List, [], ◌∷◌, ◌++◌, All}
 use Rattle.std.specs.List.{AllPairs}
 use Rattle.cj_calls.specs.declared.report.Look.{Look}
 use Rattle.cj_calls.specs.declared.report.Report.{Report}
 use Rattle.cj_publish.specs.declared.view.Cell.{Cell}
 use Rattle.cj_publish.specs.declared.view.View.{View}
 use Rattle.cj_publish.specs.Plays.{NotOlder}
+use Rattle.cj_publish.specs.Seen.{SeenAt}
 use Rattle.cj_publish.specs.Fetched.{main_of}
 
 -- a look as its seat keeps it
@@ -28,3 +29,11 @@ IsAbove floor look = All (λ (x : Look). x.function ≡ look.function → x.offs
 -- the look is no older than what the view has seen
 abbrev pub IsNotOlder : View → Look → Type 0
 IsNotOlder v look = NotOlder v (main_of look.function) look.offset
+
+-- the view has seen what the look tells
+abbrev pub IsSeen : View → Look → Type 0
+IsSeen v look = SeenAt v (main_of look.function) look.offset
+
+-- the look found nothing, or what the view has seen
+abbrev pub FoundIn : View → Look → Type 0
+FoundIn v look = (look.offset ≡ 0) ⊎ IsSeen v look

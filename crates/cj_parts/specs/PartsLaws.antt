@@ -18,6 +18,7 @@ module _ {I A : Type 0} (P : I → List A → Type 0) where
   parts_push xs x a part h p = parts_append xs (x ∷ []) a part h (one_part x part p)
 
 -- parts are parts by what they imply
-pub parts_weaker : {I A : Type 0} (P Q : I → List A → Type 0) → ((i : I) (xs : List A) → P i xs → Q i xs) → (is : List I) (all : List A) → InParts P is all → InParts Q is all
+pub parts_weaker : {I A : Type 0} (P Q : I → List A → Type 0) → ((i : I) (xs : List A) → P i xs → Q i xs) → (is : List I) (all : List A) → InParts P is all
+    → InParts Q is all
 parts_weaker P Q f [] all h = h
 parts_weaker P Q f (i ∷ is) all h = (h.0, h.1, f i h.0 h.2, parts_weaker P Q f is h.1 h.3, h.4)
