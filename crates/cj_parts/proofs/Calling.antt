@@ -1,5 +1,5 @@
 -- The report of a run over what a seat has read whole, and calls of a session that follow each other.
-use Rattle.std.proofs.Common.{◌≡◌, ◌∙◌, sym, ap, subst, ℕ, ◌+◌, ◌*◌, ◌≤◌, ◌==◌, Bool, true, false, if◌then◌else◌}
+use Rattle.std.proofs.Common.{◌≡◌, ◌∙◌, refl, sym, ap, subst, ℕ, ◌+◌, ◌*◌, ◌≤◌, ◌==◌, Bool, true, false, if◌then◌else◌}
 use Rattle.std.proofs.Common.{List, [], ◌∷◌, ◌++◌, map, append_assoc, length}
 use Rattle.std.specs.Prelude.{Option, Some, None, All, ℤ}
 use Rattle.std.proofs.lemmas.List.{map-append}
@@ -18,9 +18,9 @@ use Rattle.cj_codec.proofs.CodeFormats.{decoded_exactly}
 use Rattle.cj_calls.specs.declared.report.Look.{Look}
 use Rattle.cj_calls.specs.declared.report.Report.{Report}
 use Rattle.cj_calls.specs.Reports.{ReportStands, IsWhole}
-use Rattle.cj_engine.specs.Versions.{State, Codes, Progress, Continues, Finishes, Undefined}
-use Rattle.cj_engine.specs.VersionRuns.{version_run, report_of, if_used, report_at, version_report}
-use Rattle.cj_engine.specs.CodeMaps.{SoundCodes}
+use Rattle.cj_machine.specs.Versions.{State, Codes, Progress, Continues, Finishes, Undefined}
+use Rattle.cj_machine.specs.VersionRuns.{version_run, report_of, if_used, report_at, version_report}
+use Rattle.cj_machine.specs.CodeMaps.{SoundCodes}
 use Rattle.cj_profile.specs.declared.view.Read.{Read}
 use Rattle.cj_publish.specs.declared.view.Cell.{Cell}
 use Rattle.cj_publish.specs.declared.view.View.{View}
@@ -107,6 +107,10 @@ module _ (P : Program) (call next : Begun) (r s : Report) (u v w : View) (old mi
   -- one part each, over what was read whole in the end
   pub both_parts : (one : List Read) × (two : List Read) × CallPart P (known_codes w) call r one × CallPart P (known_codes w) next s two
       × (new ≡ old ++ (one ++ two))
-  both_parts =
-      (first.reads.0, second.reads.0, call_grows P (known_codes v) (known_codes w) (codes_grow v w second.learns ok) call r first.reads.0 first.reads.1,
-      second.reads.1, second.reads.2 ∙ ap (λ (l : List Read). l ++ second.reads.0) first.reads.2 ∙ append_assoc old first.reads.0 second.reads.0)
+  both_parts = (
+    first.reads.0,
+    second.reads.0,
+    call_grows P (known_codes v) (known_codes w) (codes_grow v w second.learns ok) call r first.reads.0 first.reads.1,
+    second.reads.1,
+    second.reads.2 ∙ ap (λ (l : List Read). l ++ second.reads.0) first.reads.2 ∙ append_assoc old first.reads.0 second.reads.0,
+  )

@@ -6,7 +6,7 @@ use Rattle.cj_ir.specs.declared.language.FunId.{FunId}
 use Rattle.cj_profile.specs.declared.view.Read.{Read}
 use Rattle.cj_profile.specs.declared.layout.Word.TheVariants as word
 use Rattle.cj_profile.specs.Reads.{add_one, raise, EnteredPart}
-use Rattle.cj_engine.specs.Marks.{Mark, Entered, Branched, FailedIn}
+use Rattle.cj_machine.specs.Marks.{Mark, Entered, Branched, FailedIn}
 use Rattle.cj_parts.specs.Parts.{InParts, Among, level_at_calls, level_at_fails, AskPart, MarkPart, Counts}
 
 -- ---- in order
@@ -27,13 +27,13 @@ among_short (x ∷ xs) ys h =
 pub among_all : {A : Type 0} (xs ys : List A) → Among xs ys → length ys ≤ length xs → xs ≡ ys
 among_all [] [] h few = refl
 among_all [] (y ∷ ys) h few = absurd (omega (arith, few))
-among_all {A} (x ∷ xs) ys h few = by h.0 h.2
+among_all {A} (x ∷ xs) ys h few = by h.0 h.2 (among_all xs h.1 h.3)
   where
-    by : (before : List A) → ys ≡ before ++ x ∷ h.1 → x ∷ xs ≡ ys
-    by [] e = ap (λ (l : List A). x ∷ l) (among_all xs h.1 h.3 (let whole = ap length e in omega arith)) ∙ sym e
-    by (b ∷ before) e =
-        let whole = ap length e ∙ ap (λ (n : ℕ). n + 1) (length-append before (x ∷ h.1)) in
-        let rest = among_short xs h.1 h.3 in
+    by : (before : List A) → ys ≡ before ++ x ∷ h.1 → (length h.1 ≤ length xs → xs ≡ h.1) → x ∷ xs ≡ ys
+    by [] e rest = ap (λ (l : List A). x ∷ l) (rest (let whole = ap length e in omega arith)) ∙ sym e
+    by (b ∷ before) e rest =
+        let whole : length ys ≡ length (b ∷ before) + length (x ∷ h.1) = ap length e ∙ length-append (b ∷ before) (x ∷ h.1) in
+        let short = among_short xs h.1 h.3 in
         absurd (omega arith)
 
 -- ---- each mark is counted
@@ -69,14 +69,16 @@ module _ (f : FunId) (args : List ℤ) (rs : List Read) (h : MarkPart (Entered f
       × (found + 1 ≢ 8 → found + 1 ≢ 64 → rs ≡ counts)
   unfolding level_at_calls
   entry_asks = (
-    h.0, h.1, h.3,
+    h.0,
+    h.1,
+    h.3,
     λ e. asks 1 7 refl (omega (arith, e)),
     λ e. asks 2 63 refl (omega (arith, e)),
     λ one two.
-    let none : level_at_calls h.0 ≡ None = at_count h.0 7 (Some 1) (if h.0 == 63 then Some 2 else None) (λ e. one (omega (arith, e)))
-    ∙ at_count h.0 63 (Some 2) None (λ e. two (omega (arith, e))) in
-    let empty : h.2 ≡ [] = subst (λ (o : Option ℕ). AskPart f o h.2) none h.4 in
-    h.5 ∙ ap (λ (l : List Read). h.1 ++ l) empty ∙ append-nil h.1,
+        let none : level_at_calls h.0 ≡ None = at_count h.0 7 (Some 1) (if h.0 == 63 then Some 2 else None) (λ e. one (omega (arith, e)))
+        ∙ at_count h.0 63 (Some 2) None (λ e. two (omega (arith, e))) in
+        let empty : h.2 ≡ [] = subst (λ (o : Option ℕ). AskPart f o h.2) none h.4 in
+        h.5 ∙ ap (λ (l : List Read). h.1 ++ l) empty ∙ append-nil h.1,
   )
 
 module _ (f : FunId) (rs : List Read) (h : MarkPart (FailedIn f) rs) where
@@ -87,11 +89,11 @@ module _ (f : FunId) (rs : List Read) (h : MarkPart (FailedIn f) rs) where
   failure_asks = (
     h.0,
     λ e.
-    let two : h.0 ≡ 2 = omega (arith, e) in
-    let k : AskPart f (Some 3) h.1 = subst (λ (n : ℕ). AskPart f (level_at_fails n) h.1) two h.2 in
-    (k.0, h.3 ∙ ap (λ (l : List Read). add_one (word.Failures f) h.0 ∷ l) k.1),
+        let two : h.0 ≡ 2 = omega (arith, e) in
+        let k : AskPart f (Some 3) h.1 = subst (λ (n : ℕ). AskPart f (level_at_fails n) h.1) two h.2 in
+        (k.0, h.3 ∙ ap (λ (l : List Read). add_one (word.Failures f) h.0 ∷ l) k.1),
     λ other.
-    let none : level_at_fails h.0 ≡ None = at_count h.0 2 (Some 3) None (λ e. other (omega (arith, e))) in
-    let empty : h.1 ≡ [] = subst (λ (o : Option ℕ). AskPart f o h.1) none h.2 in
-    h.3 ∙ ap (λ (l : List Read). add_one (word.Failures f) h.0 ∷ l) empty,
+        let none : level_at_fails h.0 ≡ None = at_count h.0 2 (Some 3) None (λ e. other (omega (arith, e))) in
+        let empty : h.1 ≡ [] = subst (λ (o : Option ℕ). AskPart f o h.1) none h.2 in
+        h.3 ∙ ap (λ (l : List Read). add_one (word.Failures f) h.0 ∷ l) empty,
   )

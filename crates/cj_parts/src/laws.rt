@@ -10,9 +10,9 @@ ghost use Rattle.cj_base.specs.Run.{Begun, base_run, Over};
 ghost use Rattle.cj_draft.specs.declared.code.Code.{Code};
 ghost use Rattle.cj_calls.specs.declared.report.Look.{Look};
 ghost use Rattle.cj_calls.specs.declared.report.Report.{Report};
-ghost use Rattle.cj_engine.specs.Versions.{Codes};
-ghost use Rattle.cj_engine.specs.VersionRuns.{version_report};
-ghost use Rattle.cj_engine.specs.Marks.{Mark, Entered, FailedIn};
+ghost use Rattle.cj_machine.specs.Versions.{Codes};
+ghost use Rattle.cj_machine.specs.VersionRuns.{version_report};
+ghost use Rattle.cj_machine.specs.Marks.{Mark, Entered, FailedIn};
 ghost use Rattle.cj_profile.specs.declared.view.Read.{Read};
 ghost use Rattle.cj_profile.specs.declared.layout.Word.TheVariants as word;
 ghost use Rattle.cj_profile.specs.Reads.{add_one, raise, EnteredPart};
@@ -24,7 +24,7 @@ ghost use Rattle.cj_parts.specs.Known.{known_codes};
 ghost use Rattle.cj_parts.specs.Looks.{looked, NeverFall, IsAbove, IsSeen, FoundIn};
 ghost use Rattle.cj_parts.specs.Calls.{IsV, Stands, CallPart, Ran};
 
-use cj_engine::laws::reports_have_the_headline;
+use cj_machine::laws::reports_have_the_headline;
 
 /// The map of a seat has a version that the seat has read whole.
 pub fn version_read_whole_is_known()
@@ -62,7 +62,7 @@ pub fn calls_make_parts()
     ensures { (P : Program) (call next : Begun) (r s : Report) (u v w : View) (old mid new : List Read) →
         Ran P call r u v old mid → Ran P next s v w mid new → IsReliable w →
         (one : List Read) × (two : List Read) × CallPart P (known_codes w) call r one × CallPart P (known_codes w) next s two
-            × (new ≡ old ++ (one ++ two)) }
+        × (new ≡ old ++ (one ++ two)) }
 {}
 
 /// Among the steps of a run are those that count its marks, each on its own word, in the order of the marks.
@@ -80,17 +80,17 @@ pub fn all_that_stand_are_the_list()
 pub fn entries_ask_for_levels()
     ensures { (f : FunId) (args : List ℤ) (rs : List Read) → MarkPart (Entered f args) rs →
         (found : ℕ) × (counts : List Read) × EnteredPart f args found counts
-            × (found + 1 ≡ 8 → (asked : ℕ) × (rs ≡ counts ++ raise (word.Asked f) asked 1 ∷ []))
-            × (found + 1 ≡ 64 → (asked : ℕ) × (rs ≡ counts ++ raise (word.Asked f) asked 2 ∷ []))
-            × (found + 1 ≢ 8 → found + 1 ≢ 64 → rs ≡ counts) }
+        × (found + 1 ≡ 8 → (asked : ℕ) × (rs ≡ counts ++ raise (word.Asked f) asked 1 ∷ []))
+        × (found + 1 ≡ 64 → (asked : ℕ) × (rs ≡ counts ++ raise (word.Asked f) asked 2 ∷ []))
+        × (found + 1 ≢ 8 → found + 1 ≢ 64 → rs ≡ counts) }
 {}
 
 /// The third failure in a function asks for level 3, and no other asks.
 pub fn failures_ask_for_a_level()
     ensures { (f : FunId) (rs : List Read) → MarkPart (FailedIn f) rs →
         (found : ℕ)
-            × (found + 1 ≡ 3 → (asked : ℕ) × (rs ≡ add_one (word.Failures f) found ∷ raise (word.Asked f) asked 3 ∷ []))
-            × (found + 1 ≢ 3 → rs ≡ add_one (word.Failures f) found ∷ []) }
+        × (found + 1 ≡ 3 → (asked : ℕ) × (rs ≡ add_one (word.Failures f) found ∷ raise (word.Asked f) asked 3 ∷ []))
+        × (found + 1 ≢ 3 → rs ≡ add_one (word.Failures f) found ∷ []) }
 {}
 
 /// A report that a versioned run gives over any looks is V's, since it tells these looks.
@@ -111,6 +111,6 @@ pub fn versions_read_whole_keep_the_headline()
 /// Two reports of a call that have the headline are alike, where the limit is large enough for the base run.
 pub fn reports_that_stand_are_alike()
     ensures { (P : Program) (call : Begun) (r s : Report) (n : ℕ) (printed : List ℤ) (by : End) →
-        Stands P call r → Stands P call s → base_run P call n ≡ Over printed by → 45 * (n + 1) ≤ call.limit →
+        Stands P call r → Stands P call s → base_run P call n ≡ Over printed by n → 45 * (n + 1) ≤ call.limit →
         (r.printed ≡ s.printed) × (r.end ≡ s.end) }
 {}

@@ -14,7 +14,7 @@ ghost use Rattle.cj_draft.specs.declared.code.Code.{Code};
 ghost use Rattle.cj_draft.specs.declared.passes.Skipped.{Skipped};
 ghost use Rattle.cj_calls.specs.declared.report.Look.{Look};
 ghost use Rattle.cj_calls.specs.declared.report.Report.{Report};
-ghost use Rattle.cj_engine.specs.Versions.{Codes};
+ghost use Rattle.cj_machine.specs.Versions.{Codes};
 ghost use Rattle.cj_profile.specs.declared.view.Read.{Read};
 ghost use Rattle.cj_profile.specs.declared.layout.Word.TheVariants as word;
 ghost use Rattle.cj_profile.specs.declared.snapshot.Snapshot.{Snapshot};
