@@ -1,16 +1,14 @@
 -- The report of a run over what a seat has read whole, and calls of a session that follow each other.
 use Rattle.std.proofs.Common.{◌≡◌, ◌∙◌, refl, sym, ap, subst, ℕ, ◌+◌, ◌*◌, ◌≤◌, ◌==◌, Bool, true, false, if◌then◌else◌}
-use Rattle.std.proofs.Common.{List, [], ◌∷◌, ◌++◌, map, append_assoc, length}
-use Rattle.std.specs.Prelude.{Option, Some, None, All, ℤ}
+use Rattle.std.proofs.Common.{List, ◌++◌, map, append_assoc, length}
+use Rattle.std.specs.Prelude.{Some, None, All, ℤ}
 use Rattle.std.proofs.lemmas.List.{map-append}
 use Rattle.std.proofs.lemmas.List.Elements.{All-weaker}
 use Rattle.std.proofs.lemmas.Option.{same_Some}
 use Rattle.cj_ir.specs.WellFormed.{IsWellFormed, Takes}
-use Rattle.cj_ir.specs.declared.language.FunId.{FunId}
 use Rattle.cj_ir.specs.declared.language.Program.{Program}
 use Rattle.cj_base.specs.declared.machine.End.{End}
 use Rattle.cj_base.specs.Run.{Begun, base_run, Over}
-use Rattle.cj_draft.specs.declared.code.Code.{Code}
 use Rattle.cj_draft.specs.Sound.{Sound}
 use Rattle.cj_draft.specs.Contexts.{context_in}
 use Rattle.cj_codec.specs.Reading.{decoded}
@@ -26,10 +24,6 @@ use Rattle.cj_publish.specs.declared.view.Cell.{Cell}
 use Rattle.cj_publish.specs.declared.view.View.{View}
 use Rattle.cj_publish.specs.Plays.{IsReliable}
 use Rattle.cj_publish.specs.Spelled.{SpellsVersion}
-use Rattle.cj_publish.specs.Fetched.{main_of}
-use Rattle.cj_publish.specs.Learns.{learns_twice}
-use Rattle.cj_parts.specs.Parts.{InParts}
-use Rattle.cj_parts.specs.PartsLaws.{one_part}
 use Rattle.cj_parts.specs.Known.{known_codes}
 use Rattle.cj_parts.specs.Looks.{looked, NeverFall, IsAbove, IsNotOlder, IsSeen}
 use Rattle.cj_parts.specs.Calls.{IsV, Stands, CallPart, Ran}

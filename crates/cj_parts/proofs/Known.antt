@@ -35,7 +35,8 @@ first_whole c offset (r ∷ rs) x here is = by (is_whole_at c offset r) refl (fi
   where
     Later : Type 0
     Later =
-        Has rs x → is_whole_at c offset x ≡ true → (y : Region) × Has rs y × (y.offset ≡ offset) × (length y.read ≡ y.len) × (words_at c offset rs ≡ Some y.read)
+        Has rs x → is_whole_at c offset x ≡ true → (y : Region) × Has rs y × (y.offset ≡ offset) × (length y.read ≡ y.len)
+        × (words_at c offset rs ≡ Some y.read)
 
     Found : Type 0
     Found =
