@@ -4,3 +4,4 @@ pub mod Looking
 pub mod Working
 pub mod Turning
 pub mod Doing
+pub mod Telling

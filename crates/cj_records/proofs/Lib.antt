@@ -7,3 +7,4 @@ pub mod Sharing
 pub mod InScript
 pub mod Standing
 pub mod Worked
+pub mod Showing

@@ -24,6 +24,7 @@ use Rattle.cj_parts.specs.Looks.{looks_of, IsAbove, IsNotOlder}
 use Rattle.cj_parts.specs.Calls.{Stands, Ran}
 use Rattle.cj_parts.proofs.Known.{codes_grow}
 use Rattle.cj_parts.proofs.Growth.{zip_push}
+use Rattle.cj_parts.proofs.Calling.{ran_above}
 use Rattle.cj_parts.proofs.Rising.{looks_never_fall, looks_push, trail_push}
 use Rattle.cj_notes.specs.declared.notes.WorkNote.{WorkNote}
 use Rattle.cj_notes.specs.Causes.{Noted}
@@ -50,12 +51,15 @@ module _ (P : Program) where
   HintsSet setups reads = ReadsInParts P no_codes (map OfSetup setups) reads
 
   -- one hint more
-  pub hint_push : (setups : List Setup) (s : Setup) (reads part : List Read) → HintsSet setups reads → SetupPart s part → HintsSet (setups ++ s ∷ []) (reads ++ part)
+  pub hint_push : (setups : List Setup) (s : Setup) (reads part : List Read) → HintsSet setups reads → SetupPart s part
+      → HintsSet (setups ++ s ∷ []) (reads ++ part)
   hint_push setups s reads part h p =
-      subst (λ (is : List Item). ReadsInParts P no_codes is (reads ++ part)) (sym (map_push OfSetup setups s)) (parts_push (IsPart P no_codes) (map OfSetup setups) (OfSetup s) reads part h p)
+      subst (λ (is : List Item). ReadsInParts P no_codes is (reads ++ part)) (sym (map_push OfSetup setups s))
+      (parts_push (IsPart P no_codes) (map OfSetup setups) (OfSetup s) reads part h p)
 
   -- no `warm` line yet
-  pub prepared_none : (setups : List Setup) (v : View) (reads : List Read) → v.taken ≡ 0 → v.lookups ≡ [] → HintsSet setups reads → Prepared P setups [] [] v reads
+  pub prepared_none : (setups : List Setup) (v : View) (reads : List Read) → v.taken ≡ 0 → v.lookups ≡ [] → HintsSet setups reads
+      → Prepared P setups [] [] v reads
   unfolding warm_lines
   prepared_none setups v reads none looks h = record {
     are_warm = tt;
@@ -75,18 +79,25 @@ module _ (P : Program) where
         let items = map OfSetup setups ++ map OfWarm warm in
         let parts = parts_push (IsPart P no_codes) items (OfWarm note) old made.reads.0 h.in_parts made.reads.1 in
         let same : items ++ OfWarm note ∷ [] ≡ map OfSetup setups ++ map OfWarm (warm ++ note ∷ []) =
-        append_assoc (map OfSetup setups) (map OfWarm warm) (OfWarm note ∷ []) ∙ ap (λ (l : List Item). map OfSetup setups ++ l) (sym (map_push OfWarm warm note)) in
+        append_assoc (map OfSetup setups) (map OfWarm warm) (OfWarm note ∷ [])
+        ∙ ap (λ (l : List Item). map OfSetup setups ++ l) (sym (map_push OfWarm warm note)) in
         record {
-          are_warm = subst (λ (ls : List WarmLine). AllZip IsWarmOf ls (warm ++ note ∷ [])) (sym (lines_append begun (Warm f level ∷ []))) (zip_push IsWarmOf (warm_lines begun) warm line note h.are_warm made.is_line);
+          are_warm =
+              subst (λ (ls : List WarmLine). AllZip IsWarmOf ls (warm ++ note ∷ [])) (sym (lines_append begun (Warm f level ∷ [])))
+              (zip_push IsWarmOf (warm_lines begun) warm line note h.are_warm made.is_line);
           notes = notes_push P 0 v w warm made.works.learns h.notes n made.works.cause made.works.taken;
           lookups = made.works.lookups ∙ h.lookups;
-          in_parts = subst (λ (is : List Item). ReadsInParts P no_codes is new) same (subst (λ (l : List Read). ReadsInParts P no_codes (items ++ OfWarm note ∷ []) l) (sym made.reads.2) parts);
+          in_parts =
+              subst (λ (is : List Item). ReadsInParts P no_codes is new) same
+              (subst (λ (l : List Read). ReadsInParts P no_codes (items ++ OfWarm note ∷ []) l) (sym made.reads.2) parts);
         }
 
     -- a hint needs no work
     pub warm_skip : (s : Setup) → warm_lines (s ∷ []) ≡ [] → Prepared P setups (begun ++ s ∷ []) warm v old
     warm_skip s none = record {
-      are_warm = subst (λ (ls : List WarmLine). AllZip IsWarmOf ls warm) (sym (lines_append begun (s ∷ []) ∙ ap (λ (l : List WarmLine). warm_lines begun ++ l) none ∙ append-nil (warm_lines begun))) h.are_warm;
+      are_warm =
+          subst (λ (ls : List WarmLine). AllZip IsWarmOf ls warm)
+          (sym (lines_append begun (s ∷ []) ∙ ap (λ (l : List WarmLine). warm_lines begun ++ l) none ∙ append-nil (warm_lines begun))) h.are_warm;
       notes = h.notes;
       lookups = h.lookups;
       in_parts = h.in_parts;
@@ -108,10 +119,6 @@ module _ (P : Program) (floor : List Look) where
     in_parts = empty;
   }
 
-  above_floor : (v : View) (look : Look) → All (IsSeen v) floor → IsNotOlder v look → IsAbove floor look
-  above_floor v look seen old = All-weaker (IsSeen v) (λ (x : Look). x.function ≡ look.function → x.offset ≤ look.offset)
-      (λ (x : Look) (at : IsSeen v x) (e : x.function ≡ look.function). subst (λ (n : ℕ). n ≤ look.offset) at.3 (old at.0 at.1 (at.2 ∙ ap main_of e))) floor seen
-
   pub calls_push : (calls : List Begun) (reports : List Report) (call : Begun) (r : Report) (v w : View) (old new : List Read)
       → CallsMade P floor calls reports v old → Ran P call r v w old new → IsReliable w → CallsMade P floor (calls ++ call ∷ []) (reports ++ r ∷ []) w new
   unfolding call_items
@@ -119,8 +126,9 @@ module _ (P : Program) (floor : List Look) where
       let a : Answered = record { call = call; report = r } in
       let grow = codes_grow v w ran.learns ok in
       let items = call_items h.answered in
-      let parts = parts_push (IsPart P (known_codes w)) items (OfCall call r) old ran.reads.0 (in_parts_grows P (known_codes v) (known_codes w) grow items old h.in_parts) ran.reads.1 in
-      let more : All (IsAbove floor) r.looks = All-weaker (IsNotOlder v) (IsAbove floor) (λ (look : Look) (o : IsNotOlder v look). above_floor v look h.seen o) r.looks ran.floor in
+      let before = in_parts_grows P (known_codes v) (known_codes w) grow items old h.in_parts in
+      let parts = parts_push (IsPart P (known_codes w)) items (OfCall call r) old ran.reads.0 before ran.reads.1 in
+      let more : All (IsAbove floor) r.looks = ran_above P call r v w old new floor ran h.seen in
       record {
         seen = All-weaker (IsSeen v) (IsSeen w) (λ (x : Look) (at : IsSeen v x). ran.learns.seen (main_of x.function) x.offset at) floor h.seen;
         answered = h.answered ++ a ∷ [];

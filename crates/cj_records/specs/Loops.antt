@@ -10,9 +10,8 @@ use Rattle.cj_profile.specs.declared.view.Read.{Read}
 use Rattle.cj_profile.specs.Seats as counts
 use Rattle.cj_publish.specs.declared.view.View.{View}
 use Rattle.cj_publish.specs.Seats.{view_of, IsSole}
-use Rattle.cj_publish.specs.Seen.{SeenAt}
-use Rattle.cj_publish.specs.Fetched.{main_of}
 use Rattle.cj_parts.specs.Known.{known_codes}
+pub use Rattle.cj_parts.specs.Looks.{IsSeen}
 use Rattle.cj_parts.specs.Looks.{looked, looks_of, IsAbove}
 use Rattle.cj_parts.specs.Calls.{Stands}
 use Rattle.cj_notes.specs.declared.notes.WorkNote.{WorkNote}
@@ -37,10 +36,6 @@ pub record IsPrepared (P : Program) (size : ℕ) (setups : List Setup) (warm : L
   pub profile_sole : counts.IsSole s.profile_seat
   pub free : (view_of s.code_seat).claim ≡ None
   pub prepared : Prepared P setups setups warm (view_of s.code_seat) (counts.reads_of s.profile_seat)
-
--- the view has seen what the look tells
-abbrev pub IsSeen : View → Look → Type 0
-IsSeen v look = SeenAt v (main_of look.function) look.offset
 
 -- a caller's calls so far
 pub record CallsMade (P : Program) (floor : List Look) (calls : List Begun) (reports : List Report) (v : View) (reads : List Read) : Type 0 where
