@@ -24,16 +24,20 @@ use Rattle.cj_records.specs.Versions.{HasHeadline, AreV, roles_of, RolesStand, R
 use Rattle.cj_records.proofs.Sharing.{AsLong, all_dealt}
 
 -- a caller's reads hold that its reports are V's
-pub calls_are_v : (P : Program) (codes : Codes) (answered : List Answered) (reads : List Read) → ReadsInParts P codes (call_items answered) reads → All (λ (a : Answered). IsV P codes a.call a.report) answered
+pub calls_are_v : (P : Program) (codes : Codes) (answered : List Answered) (reads : List Read) → ReadsInParts P codes (call_items answered) reads →
+    All (λ (a : Answered). IsV P codes a.call a.report) answered
 unfolding call_items
 calls_are_v P codes [] reads h = All-nil (λ (a : Answered). IsV P codes a.call a.report)
 calls_are_v P codes (a ∷ more) reads h = All-cons (λ (a : Answered). IsV P codes a.call a.report) a more h.2.run (calls_are_v P codes more h.1 h.3)
 
-zip_of : (R : Begun → Report → Type 0) (answered : List Answered) (calls : List Begun) (reports : List Report) → map (λ (a : Answered). a.call) answered ≡ calls → map (λ (a : Answered). a.report) answered ≡ reports → All (λ (a : Answered). R a.call a.report) answered → AllZip R calls reports
+zip_of : (R : Begun → Report → Type 0) (answered : List Answered) (calls : List Begun) (reports : List Report) →
+    map (λ (a : Answered). a.call) answered ≡ calls → map (λ (a : Answered). a.report) answered ≡ reports →
+    All (λ (a : Answered). R a.call a.report) answered → AllZip R calls reports
 zip_of R answered calls reports e f h =
     subst (λ (cs : List Begun). AllZip R cs reports) e (subst (λ (rs : List Report). AllZip R (map (λ (a : Answered). a.call) answered) rs) f (all answered h))
   where
-    all : (some : List Answered) → All (λ (a : Answered). R a.call a.report) some → AllZip R (map (λ (a : Answered). a.call) some) (map (λ (a : Answered). a.report) some)
+    all : (some : List Answered) → All (λ (a : Answered). R a.call a.report) some →
+        AllZip R (map (λ (a : Answered). a.call) some) (map (λ (a : Answered). a.report) some)
     all [] h = tt
     all (a ∷ more) h = (All-head (λ (a : Answered). R a.call a.report) a more h, all more (All-tail (λ (a : Answered). R a.call a.report) a more h))
 
@@ -95,13 +99,16 @@ module _ (P : Program) (codes : Codes) (c : ℕ) (floor : List Look) (chains : L
   unfolding roles_of dealt calls_at reports_at
   in_script workers roles some fit e f h =
       let rest = replicate workers (Worker (length (map (λ k. flat (share c k chains)) (numbers_from 0 c)))) in
-      let at : (k : ℕ) → k < c → AtShare k = λ k lt. each c 0 roles rest (replicate workers []) (e ∙ ap (λ x. x ++ rest) (map_twice (numbers_from 0 c))) f h k (omega arith) (omega (arith, lt)) in (
+      let at : (k : ℕ) → k < c →
+      AtShare k = λ k lt. each c 0 roles rest (replicate workers []) (e ∙ ap (λ x. x ++ rest) (map_twice (numbers_from 0 c))) f h k (omega arith)
+      (omega (arith, lt)) in (
         all_dealt (Stands P) c some chains answers fit (λ k lt. (at k lt).0),
         all_dealt (IsV P codes) c some chains answers fit (λ k lt. (at k lt).1),
       )
 
 -- the clauses of `run C W`, and the headline
-pub run_stands : (P : Program) (size callers workers : ℕ) (setups : List Setup) (chains : List (List Begun)) (answers : List (List Report)) (work : List WorkNote) (s : Store)
+pub run_stands : (P : Program) (size callers workers : ℕ) (setups : List Setup) (chains : List (List Begun)) (answers : List (List Report))
+    (work : List WorkNote) (s : Store)
     → 0 < callers → AllZip AsLong chains answers
     → RolesStand P size workers setups (dealt callers chains) (dealt callers answers) work s
     → HasHeadline P (flat chains) (flat answers) × RunStands P size callers workers setups chains (flat answers) work s

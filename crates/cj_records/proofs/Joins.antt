@@ -67,15 +67,18 @@ pub backed_record : (P : Program) (v : View) → IsReliable v → (d : Done) →
 backed_record P v ok d h = record_grows P h.0 (known_codes v) (in_known v h.0 ok h.1) d h.2
 
 -- so the records of all roles are, once the seat is confirmed
-pub records_known : (P : Program) (size : ℕ) (setups : List Setup) (warm : List WorkNote) (roles : List Done) (v : View) (reads : List Read) (others : List (List Read))
+pub records_known : (P : Program) (size : ℕ) (setups : List Setup) (warm : List WorkNote) (roles : List Done) (v : View) (reads : List Read)
+    (others : List (List Read))
     → IsReliable v → Joined P size setups warm roles v reads others → All (IsRecord P (known_codes v)) roles
 records_known P size setups warm roles v reads others ok h = All-weaker (IsBacked P v) (IsRecord P (known_codes v)) (backed_record P v ok) roles h.backed
 
-notes_join : (P : Program) (a b c : View) (xs ys : List WorkNote) → Learns a c → Learns b c → c.taken ≡ a.taken + b.taken → NotesStand P a xs → NotesStand P b ys → NotesStand P c (xs ++ ys)
+notes_join : (P : Program) (a b c : View) (xs ys : List WorkNote) → Learns a c → Learns b c → c.taken ≡ a.taken + b.taken → NotesStand P a xs →
+    NotesStand P b ys → NotesStand P c (xs ++ ys)
 notes_join P a b c xs ys g h e nx ny = record {
   noted = nx.noted ++ ny.noted;
   are_notes = map-append (λ (n : Noted). n.note) nx.noted ny.noted ∙ (λ i. nx.are_notes i ++ ny.are_notes i);
-  causes = All-append (NoteStands P c) nx.noted ny.noted (All-weaker (NoteStands P a) (NoteStands P c) (note_grows P a c g) nx.noted nx.causes) (All-weaker (NoteStands P b) (NoteStands P c) (note_grows P b c h) ny.noted ny.causes);
+  causes = All-append (NoteStands P c) nx.noted ny.noted (All-weaker (NoteStands P a) (NoteStands P c) (note_grows P a c g) nx.noted nx.causes)
+      (All-weaker (NoteStands P b) (NoteStands P c) (note_grows P b c h) ny.noted ny.causes);
   taken = let s = sum_by-append claimed_by nx.noted ny.noted in let k = nx.taken in let l = ny.taken in omega arith;
 }
 
@@ -87,10 +90,13 @@ work_push (x ∷ xs) d = ap (λ (y : List WorkNote). x.work ++ y) (work_push xs 
 module _ (P : Program) (size : ℕ) (setups : List Setup) (warm : List WorkNote) where
   theirs_learn : (v u : View) → IsOver P size v → IsOver P size u → Learns u (joined_view v u)
   theirs_learn v u mine theirs =
-      learns_more u (joined_view v u) (mine.live ∙ sym theirs.live) (key_is v.key u.key (mine.program ∙ sym theirs.program) (mine.one_slot ∙ sym theirs.one_slot) (mine.sized ∙ sym theirs.sized)) (omega arith) (λ x h. has_right v.regions u.regions x h)
+      learns_more u (joined_view v u) (mine.live ∙ sym theirs.live)
+      (key_is v.key u.key (mine.program ∙ sym theirs.program) (mine.one_slot ∙ sym theirs.one_slot) (mine.sized ∙ sym theirs.sized)) (omega arith)
+      (λ x h. has_right v.regions u.regions x h)
 
   -- no role was joined yet
-  pub joined_none : (v : View) (reads : List Read) (others : List (List Read)) → IsOver P size v → Prepared P setups setups warm v reads → FromZeros reads → v.joined ≡ [] → others ≡ [] → Joined P size setups warm [] v reads others
+  pub joined_none : (v : View) (reads : List Read) (others : List (List Read)) → IsOver P size v → Prepared P setups setups warm v reads → FromZeros reads →
+      v.joined ≡ [] → others ≡ [] → Joined P size setups warm [] v reads others
   unfolding setup_items work_of
   joined_none v reads others over h began none empty = record {
     over = over;
@@ -105,7 +111,8 @@ module _ (P : Program) (size : ℕ) (setups : List Setup) (warm : List WorkNote)
   }
 
   -- one role more
-  pub join_push : (roles : List Done) (v : View) (reads : List Read) (others : List (List Read)) (role : Role) (reports : List Report) (work : List WorkNote) (s : CodeSeat) (t : ProfileSeat)
+  pub join_push : (roles : List Done) (v : View) (reads : List Read) (others : List (List Read)) (role : Role) (reports : List Report) (work : List WorkNote)
+      (s : CodeSeat) (t : ProfileSeat)
       → Joined P size setups warm roles v reads others
       → (r : RoleStands P size role reports work s t)
       → Joined P size setups warm (roles ++ record { role = role; reports = reports; work = work; looks = r.looks; reads = counts.reads_of t } ∷ [])
@@ -116,7 +123,8 @@ module _ (P : Program) (size : ℕ) (setups : List Setup) (warm : List WorkNote)
       let w = joined_view v u in
       let mine = joins_learns v u in
       let theirs = theirs_learn v u h.over r.seats.over in
-      let all : (warm ++ work_of roles) ++ work ≡ warm ++ work_of (roles ++ d ∷ []) = append_assoc warm (work_of roles) work ∙ ap (λ (l : List WorkNote). warm ++ l) (sym (work_push roles d)) in
+      let all : (warm ++ work_of roles) ++ work ≡ warm ++ work_of (roles ++ d ∷ []) = append_assoc warm (work_of roles) work
+      ∙ ap (λ (l : List WorkNote). warm ++ l) (sym (work_push roles d)) in
       let backed : IsBacked P w d = (known_codes u, in_later u w (known_codes u) theirs (known_in u), r.is_record) in
       let looks : u.lookups ∷ u.joined ≡ map looked r.looks ∷ [] = λ i. r.lookups i ∷ r.seats.code_joined i in
       record {
@@ -128,5 +136,6 @@ module _ (P : Program) (size : ℕ) (setups : List Setup) (warm : List WorkNote)
         in_parts = h.in_parts;
         looks_joined = (λ i. h.looks_joined i ++ looks i) ∙ sym (map_push (λ (x : Done). map looked x.looks) roles d);
         reads_joined = (λ i. h.reads_joined i ++ counts.reads_of t ∷ r.seats.profile_joined i) ∙ sym (map_push (λ (x : Done). x.reads) roles d);
-        backed = All-push (IsBacked P w) roles d (All-weaker (IsBacked P v) (IsBacked P w) (λ (x : Done) (b : IsBacked P v x). backed_later P v w x mine b) roles h.backed) backed;
+        backed = All-push (IsBacked P w) roles d
+            (All-weaker (IsBacked P v) (IsBacked P w) (λ (x : Done) (b : IsBacked P v x). backed_later P v w x mine b) roles h.backed) backed;
       }

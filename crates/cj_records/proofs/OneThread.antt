@@ -36,15 +36,21 @@ unfolding round_items
 items_push [] r = refl
 items_push (x ∷ xs) r = ap (λ (y : List Item). OfCall x.call x.report ∷ OfWork x.note ∷ y) (items_push xs r)
 
-above_push : (floor : List Look) (rounds : List Round) (r : Round) → LooksAbove floor rounds → All (IsAbove (floor ++ published_by (map (λ (x : Round). x.note) rounds))) r.report.looks → LooksAbove floor (rounds ++ r ∷ [])
+above_push : (floor : List Look) (rounds : List Round) (r : Round) → LooksAbove floor rounds →
+    All (IsAbove (floor ++ published_by (map (λ (x : Round). x.note) rounds))) r.report.looks → LooksAbove floor (rounds ++ r ∷ [])
 unfolding published_by
 above_push floor [] r h a = (subst (λ (l : List Look). All (IsAbove l) r.report.looks) (append-nil floor) a, tt)
-above_push floor (x ∷ xs) r h a =
-    (h.0, above_push (floor ++ published x.note) xs r h.1 (subst (λ (l : List Look). All (IsAbove l) r.report.looks) (sym (append_assoc floor (published x.note) (published_by (map (λ (y : Round). y.note) xs)))) a))
+above_push floor (x ∷ xs) r h a = (
+  h.0,
+  above_push (floor ++ published x.note) xs r h.1
+      (subst (λ (l : List Look). All (IsAbove l) r.report.looks)
+      (sym (append_assoc floor (published x.note) (published_by (map (λ (y : Round). y.note) xs)))) a),
+)
 
 module _ (P : Program) (setups : List Setup) where
   -- before the first call
-  pub alone_none : (warm : List WorkNote) (v : View) (reads : List Read) → IsReliable v → AreWarm setups warm → NotesStand P v warm → v.lookups ≡ [] → ReadsInParts P no_codes (setup_items setups warm) reads → AloneShows P setups [] [] warm v reads
+  pub alone_none : (warm : List WorkNote) (v : View) (reads : List Read) → IsReliable v → AreWarm setups warm → NotesStand P v warm → v.lookups ≡ [] →
+      ReadsInParts P no_codes (setup_items setups warm) reads → AloneShows P setups [] [] warm v reads
   unfolding looks_of round_items no_codes
   alone_none warm v reads ok are_warm notes none parts =
       let empty : Grows no_codes (known_codes v) = λ f o c e. absurd cc in
@@ -59,13 +65,15 @@ module _ (P : Program) (setups : List Setup) where
         above = tt;
         lookups = none;
         rises = looks_never_fall v [] ok none;
-        in_parts = subst (λ (is : List Item). ReadsInParts P (known_codes v) is reads) (sym (append-nil (setup_items setups warm))) (in_parts_grows P no_codes (known_codes v) empty (setup_items setups warm) reads parts);
+        in_parts = subst (λ (is : List Item). ReadsInParts P (known_codes v) is reads) (sym (append-nil (setup_items setups warm)))
+            (in_parts_grows P no_codes (known_codes v) empty (setup_items setups warm) reads parts);
         versions = tt;
         knows = all_known P v ok notes.noted notes.causes;
       }
 
   -- a call and its work more
-  pub alone_push : (calls : List Begun) (reports : List Report) (work : List WorkNote) (a b c : View) (first second third : List Read) (call : Begun) (r : Report) (note : WorkNote)
+  pub alone_push : (calls : List Begun) (reports : List Report) (work : List WorkNote) (a b c : View) (first second third : List Read) (call : Begun)
+      (r : Report) (note : WorkNote)
       → AloneShows P setups calls reports work a first
       → Ran P call r a b first second
       → WorkedOne P note b c second third
@@ -81,27 +89,35 @@ module _ (P : Program) (setups : List Setup) where
       let items = setup_items setups h.warm ++ round_items h.rounds in
       let lookups = trail_push a c reports r h.lookups (w.lookups ∙ ran.trail) in
       let part = part_grows P (known_codes b) (known_codes c) since (OfCall call r) ran.reads.0 ran.reads.1 in
-      let one = parts_push (IsPart P (known_codes c)) items (OfCall call r) first ran.reads.0 (in_parts_grows P (known_codes a) (known_codes c) before items first h.in_parts) part in
+      let one = parts_push (IsPart P (known_codes c)) items (OfCall call r) first ran.reads.0
+      (in_parts_grows P (known_codes a) (known_codes c) before items first h.in_parts) part in
       let two = parts_push (IsPart P (known_codes c)) (items ++ OfCall call r ∷ []) (OfWork note) (first ++ ran.reads.0) worked.reads.0 one worked.reads.1 in
       let its : (items ++ OfCall call r ∷ []) ++ OfWork note ∷ [] ≡ setup_items setups h.warm ++ round_items (h.rounds ++ round ∷ []) =
       append_assoc items (OfCall call r ∷ []) (OfWork note ∷ [])
       ∙ append_assoc (setup_items setups h.warm) (round_items h.rounds) (OfCall call r ∷ OfWork note ∷ [])
-      ∙ ap (λ (x : List Item). setup_items setups h.warm ++ x) (sym (items_push h.rounds round ∙ append_assoc (round_items h.rounds) (OfCall call r ∷ []) (OfWork note ∷ []))) in
+      ∙ ap (λ (x : List Item). setup_items setups h.warm ++ x)
+      (sym (items_push h.rounds round ∙ append_assoc (round_items h.rounds) (OfCall call r ∷ []) (OfWork note ∷ []))) in
       let all : (first ++ ran.reads.0) ++ worked.reads.0 ≡ third = ap (λ (x : List Read). x ++ worked.reads.0) (sym ran.reads.2) ∙ sym worked.reads.2 in
-      let seen : All (IsAbove (published_by work)) r.looks = All-weaker (IsNotOlder a) (IsAbove (published_by work)) (λ (look : Look) (o : IsNotOlder a look). above_published P a look o work h.notes) r.looks ran.floor in
+      let seen : All (IsAbove (published_by work)) r.looks = All-weaker (IsNotOlder a) (IsAbove (published_by work))
+      (λ (look : Look) (o : IsNotOlder a look). above_published P a look o work h.notes) r.looks ran.floor in
       let noted = notes_push P 0 a c work g h.notes n w.cause (w.taken ∙ ap (λ (t : ℕ). t + claimed_by n) ran.taken) in
       record {
         warm = h.warm;
         rounds = h.rounds ++ round ∷ [];
         are_calls = map_push (λ (x : Round). x.call) h.rounds round ∙ ap (λ (l : List Begun). l ++ call ∷ []) h.are_calls;
         are_reports = map_push (λ (x : Round). x.report) h.rounds round ∙ ap (λ (l : List Report). l ++ r ∷ []) h.are_reports;
-        are_notes = ap (λ (l : List WorkNote). l ++ note ∷ []) h.are_notes ∙ append_assoc h.warm (map (λ (x : Round). x.note) h.rounds) (note ∷ []) ∙ ap (λ (l : List WorkNote). h.warm ++ l) (sym (map_push (λ (x : Round). x.note) h.rounds round));
+        are_notes = ap (λ (l : List WorkNote). l ++ note ∷ []) h.are_notes ∙ append_assoc h.warm (map (λ (x : Round). x.note) h.rounds) (note ∷ [])
+            ∙ ap (λ (l : List WorkNote). h.warm ++ l) (sym (map_push (λ (x : Round). x.note) h.rounds round));
         are_warm = h.are_warm;
         notes = noted;
-        above = above_push (published_by h.warm) h.rounds round h.above (subst (λ (l : List Look). All (IsAbove l) r.looks) (ap published_by h.are_notes ∙ published_append h.warm (map (λ (x : Round). x.note) h.rounds)) seen);
+        above = above_push (published_by h.warm) h.rounds round h.above
+            (subst (λ (l : List Look). All (IsAbove l) r.looks) (ap published_by h.are_notes ∙ published_append h.warm (map (λ (x : Round). x.note) h.rounds))
+            seen);
         lookups = lookups;
         rises = looks_never_fall c (looks_of (reports ++ r ∷ [])) ok lookups;
-        in_parts = subst (λ (is : List Item). ReadsInParts P (known_codes c) is third) its (subst (λ (l : List Read). ReadsInParts P (known_codes c) ((items ++ OfCall call r ∷ []) ++ OfWork note ∷ []) l) all two);
-        versions = zip_push (IsV P (known_codes c)) calls reports call r (are_v_grow P (known_codes a) (known_codes c) before calls reports h.versions) (v_grows P (known_codes b) (known_codes c) since call r ran.reads.1.run);
+        in_parts = subst (λ (is : List Item). ReadsInParts P (known_codes c) is third) its
+            (subst (λ (l : List Read). ReadsInParts P (known_codes c) ((items ++ OfCall call r ∷ []) ++ OfWork note ∷ []) l) all two);
+        versions = zip_push (IsV P (known_codes c)) calls reports call r (are_v_grow P (known_codes a) (known_codes c) before calls reports h.versions)
+            (v_grows P (known_codes b) (known_codes c) since call r ran.reads.1.run);
         knows = all_known P c ok noted.noted noted.causes;
       }

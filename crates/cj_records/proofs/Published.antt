@@ -21,7 +21,8 @@ use Rattle.cj_records.specs.Notes.{published, published_by, IsKnown}
 pub published_append : (xs ys : List WorkNote) → published_by (xs ++ ys) ≡ published_by xs ++ published_by ys
 unfolding published_by
 published_append [] ys = refl
-published_append (x ∷ xs) ys = ap (λ (r : List Look). published x ++ r) (published_append xs ys) ∙ sym (append_assoc (published x) (published_by xs) (published_by ys))
+published_append (x ∷ xs) ys = ap (λ (r : List Look). published x ++ r) (published_append xs ys)
+    ∙ sym (append_assoc (published x) (published_by xs) (published_by ys))
 
 -- the look finds a version with that code
 abbrev Finds : View → Option Code → Look → Type 0
@@ -47,7 +48,8 @@ pub all_known : (P : Program) (v : View) → IsReliable v → (ns : List Noted) 
 all_known P v ok ns h = All-weaker (NoteStands P v) (IsKnown (known_codes v)) one ns h
   where
     one : (n : Noted) → NoteStands P v n → IsKnown (known_codes v) n
-    one n c = All-weaker (Finds v n.code) (λ (look : Look). known_codes v look.function look.offset ≡ n.code) (known_at v ok n.code) (published n.note) (found v n.note n.code c.shown)
+    one n c = All-weaker (Finds v n.code) (λ (look : Look). known_codes v look.function look.offset ≡ n.code) (known_at v ok n.code) (published n.note)
+        (found v n.note n.code c.shown)
 
 -- ---- a look that is no older than what was seen is no older than what was published
 

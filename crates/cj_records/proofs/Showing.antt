@@ -52,8 +52,7 @@ pub guess_is_guarded : (f : FunId) (param : ℕ) (value : ℤ) (rs : List Read) 
     × (guard_of param (record { last = value; agreed = left_in (number (word.Agreed f param)) n rs }) ≡ Is (record { 0 = param }) value ∷ [])
 guess_is_guarded f param value rs m n h =
     let last = number (word.Last f param) in
-    let agreed = number (word.Agreed f param) in
-    (
+    let agreed = number (word.Agreed f param) in (
       ap (left_in last m) h ∙ left_first last agreed m (value_word value) 4 (λ e. absurd (omega (arith, e))),
       ap (λ (k : ℕ). guard_of param (record { last = value; agreed = k })) (ap (left_in agreed n) h ∙ left_last last agreed n (value_word value) 4),
     )

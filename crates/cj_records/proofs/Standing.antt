@@ -53,7 +53,8 @@ began_new n size P s h code profile =
 module _ (P : Program) (size : ℕ) where
   -- a caller that has made its calls, and told that it has finished
   pub caller_stands : (floor : List Look) (calls : List Begun) (reports : List Report) (s : CodeSeat) (t : ProfileSeat) (old : List Read) (found : ℕ)
-      → AreSplitOff P size s t → (view_of s).taken ≡ 0 → CallsMade P floor calls reports (view_of s) old → counts.reads_of t ≡ old ++ add_one word.Finished found ∷ []
+      → AreSplitOff P size s t → (view_of s).taken ≡ 0 → CallsMade P floor calls reports (view_of s) old →
+      counts.reads_of t ≡ old ++ add_one word.Finished found ∷ []
       → RoleStands P size (Caller calls floor) reports [] s t
   caller_stands floor calls reports s t old found off none h e = record {
     seats = off;
@@ -76,7 +77,8 @@ module _ (P : Program) (size : ℕ) where
   }
 
   -- after the joins, with the seat confirmed
-  pub roles_stand : (workers : ℕ) (setups : List Setup) (groups : List (List Begun)) (answers : List (List Report)) (warm : List WorkNote) (roles : List Done) (s : Store)
+  pub roles_stand : (workers : ℕ) (setups : List Setup) (groups : List (List Begun)) (answers : List (List Report)) (warm : List WorkNote) (roles : List Done)
+      (s : Store)
       → IsWholeStore (length groups + workers) size P s
       → map (λ (d : Done). d.role) roles ≡ roles_of groups (published_by warm) workers
       → map (λ (d : Done). d.reports) roles ≡ answers ++ replicate workers []
@@ -90,6 +92,7 @@ module _ (P : Program) (size : ℕ) where
     are_reports = are_reports;
     are_notes = refl;
     joined = h;
-    records = records_known P size setups warm roles (view_of s.code_seat) (counts.reads_of s.profile_seat) (counts.joined_of s.profile_seat) whole.code.reliable h;
+    records = records_known P size setups warm roles (view_of s.code_seat) (counts.reads_of s.profile_seat)
+        (counts.joined_of s.profile_seat) whole.code.reliable h;
     knows = all_known P (view_of s.code_seat) whole.code.reliable h.notes.noted h.notes.causes;
   }

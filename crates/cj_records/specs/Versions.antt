@@ -84,7 +84,8 @@ LooksAbove floor [] = Unit {0}
 LooksAbove floor (r ∷ rs) = All (IsAbove floor) r.report.looks × LooksAbove (floor ++ published r.note) rs
 
 -- what the two seats of such a run show
-pub record AloneShows (P : Program) (setups : List Setup) (calls : List Begun) (reports : List Report) (work : List WorkNote) (v : View) (reads : List Read) : Type 0 where
+pub record AloneShows (P : Program) (setups : List Setup) (calls : List Begun) (reports : List Report) (work : List WorkNote) (v : View)
+    (reads : List Read) : Type 0 where
   pub warm : List WorkNote
   pub rounds : List Round
   pub are_calls : map (λ (r : Round). r.call) rounds ≡ calls
@@ -103,7 +104,8 @@ pub record AloneShows (P : Program) (setups : List Setup) (calls : List Begun) (
   pub knows : All (IsKnown (known_codes v)) notes.noted
 
 -- the clauses for `alone` and `bench N`
-pub record AloneStands (P : Program) (size : ℕ) (setups : List Setup) (calls : List Begun) (reports : List Report) (work : List WorkNote) (s : Store) : Type 0 where
+pub record AloneStands (P : Program) (size : ℕ) (setups : List Setup) (calls : List Begun) (reports : List Report) (work : List WorkNote)
+    (s : Store) : Type 0 where
   pub store : IsWholeStore 0 size P s
   pub began : BeganNew P s
   pub shows : AloneShows P setups calls reports work (view_of s.code_seat) (counts.reads_of s.profile_seat)
@@ -120,7 +122,8 @@ work_of (d ∷ ds) = d.work ++ work_of ds
 
 -- The roles whose seats were joined so far, with what the seats into which they were joined show. Their records stand over
 -- what was read whole; that two readings agree is known only when the seat is confirmed.
-pub record Joined (P : Program) (size : ℕ) (setups : List Setup) (warm : List WorkNote) (roles : List Done) (v : View) (reads : List Read) (others : List (List Read)) : Type 0 where
+pub record Joined (P : Program) (size : ℕ) (setups : List Setup) (warm : List WorkNote) (roles : List Done) (v : View) (reads : List Read)
+    (others : List (List Read)) : Type 0 where
   pub over : IsOver P size v
   pub are_warm : AreWarm setups warm
   pub notes : NotesStand P v (warm ++ work_of roles)
@@ -132,7 +135,8 @@ pub record Joined (P : Program) (size : ℕ) (setups : List Setup) (warm : List 
   pub backed : All (IsBacked P v) roles
 
 -- `groups` are the calls of each caller, and `answers` their reports
-pub record RolesStand (P : Program) (size workers : ℕ) (setups : List Setup) (groups : List (List Begun)) (answers : List (List Report)) (work : List WorkNote) (s : Store) : Type 0 where
+pub record RolesStand (P : Program) (size workers : ℕ) (setups : List Setup) (groups : List (List Begun)) (answers : List (List Report)) (work : List WorkNote)
+    (s : Store) : Type 0 where
   pub store : IsWholeStore (length groups + workers) size P s
   pub warm : List WorkNote
   pub roles : List Done
@@ -145,7 +149,8 @@ pub record RolesStand (P : Program) (size workers : ℕ) (setups : List Setup) (
 
 -- The clauses for `run` and `bench N C W`: chain j goes to caller j mod C. The reports are those of the calls of the chains,
 -- one after the other.
-pub record RunStands (P : Program) (size callers workers : ℕ) (setups : List Setup) (chains : List (List Begun)) (reports : List Report) (work : List WorkNote) (s : Store) : Type 0 where
+pub record RunStands (P : Program) (size callers workers : ℕ) (setups : List Setup) (chains : List (List Begun)) (reports : List Report) (work : List WorkNote)
+    (s : Store) : Type 0 where
   pub answers : List (List Report)
   pub fit : AllZip (λ (calls : List Begun) (rs : List Report). length calls ≡ length rs) chains answers
   pub are_reports : flat answers ≡ reports
