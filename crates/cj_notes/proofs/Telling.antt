@@ -8,13 +8,10 @@ use Rattle.cj_draft.specs.declared.code.Code.{Code}
 use Rattle.cj_draft.specs.declared.passes.Skipped.{Skipped}
 use Rattle.cj_profile.specs.declared.view.Read.{Read}
 use Rattle.cj_profile.specs.declared.layout.Word.TheVariants as word
-use Rattle.cj_profile.specs.declared.jobs.JobAnswer.{JobAnswer}
 use Rattle.cj_profile.specs.declared.jobs.JobAnswer.TheVariants as answer
 use Rattle.cj_profile.specs.declared.snapshot.Snapshot.{Snapshot}
 use Rattle.cj_profile.specs.Reads.{raise, Keeps}
 use Rattle.cj_profile.specs.Snapshots.{snapshot_loads}
-use Rattle.cj_profile.specs.Jobs.{IsAnswerOf}
-use Rattle.cj_profile.proofs.Taking.{answers_of}
 use Rattle.cj_publish.specs.declared.view.View.{View}
 use Rattle.cj_publish.specs.Seen.{SeenAt}
 use Rattle.cj_publish.specs.Fetched.{main_of, HasVersion}
@@ -96,9 +93,6 @@ module _ (P : Program) where
   warm_snapshot note j rs e h =
       let k : MarkedPart P j rs = subst (λ (x : Job). MarkedPart P x rs) (same_Some h.0 j (sym h.1 ∙ e)) h.2 in
       (k.0, k.1, k.2.keep, k.2.loads, k.3)
-
-  pub of_program : (by : JobAnswer) (rs : List Read) → Takes P by rs → IsAnswerOf P by
-  of_program by rs h = answers_of P _ 0 by rs (omega arith) h
 
 -- a worker keeps the notes that have a job
 pub kept_has_job : (note : WorkNote) → ((j : Job) → job_of note ≡ Some j → kept note ≡ note ∷ []) × (job_of note ≡ None → kept note ≡ [])
