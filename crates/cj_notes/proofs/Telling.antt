@@ -32,7 +32,7 @@ module _ (P : Program) where
   unfolding claims words_in
   few_words (Published f level offset s skipped) (Some code) h = h.1
   few_words (Published f level offset s skipped) None h = absurd h
-  few_words (Older f level mine found s) (Some code) h = h.1.0
+  few_words (Older f level mine found s) (Some code) h = h.1
   few_words (Older f level mine found s) None h = absurd h
   few_words (Full f level next need s) made h = omega arith
   few_words (TooLarge f level len s) made h = omega arith
@@ -41,7 +41,7 @@ module _ (P : Program) where
 
   pub need_is : (f : FunId) (level next need : ℕ) (s : Snapshot) (code : Code) → HasCode P (Full f level next need s) (Some code)
       → (need ≡ word_count code) × (need ≤ 65536)
-  need_is f level next need s code h = let few = h.1.0 in let is = h.1.1 in (is, omega arith)
+  need_is f level next need s code h = let few = h.1 in let is = h.2 in (is, omega arith)
 
   pub len_is : (f : FunId) (level len : ℕ) (s : Snapshot) (code : Code) → HasCode P (TooLarge f level len s) (Some code)
       → (len ≤ word_count code) × (65536 < len)
@@ -64,16 +64,14 @@ module _ (P : Program) where
   pub newer_there : (v : View) (f : FunId) (level mine found : ℕ) (s : Snapshot) (made : Option Code)
       → NoteStands P v (record { note = Older f level mine found s; code = made })
       → (code : Code) × (made ≡ Some code) × IsCodeOf P (job f level s) code × (mine < found) × SeenAt v (main_of f) found
-  newer_there v f level mine found s (Some code) h = (code, refl, h.has_code.0, h.has_code.1.1, h.shown)
+  newer_there v f level mine found s (Some code) h = (code, refl, h.has_code.0, h.has_code.2, h.shown)
   newer_there v f level mine found s None h = absurd h.has_code
 
   -- ---- the job
 
-  abbrev pub ReadsSnapshot : Job → List Read → List Read → List Read → Type 0
-  ReadsSnapshot j front rest rs = All Keeps rest × Among (snapshot_loads j.function j.snapshot) rest × (rs ≡ front ++ rest)
-
   abbrev pub TakesAndReads : Job → List Read → Type 0
-  TakesAndReads j rs = (front : List Read) × (rest : List Read) × Takes P (answer.Job j.function j.level) front × ReadsSnapshot j front rest rs
+  TakesAndReads j rs = (front : List Read) × (rest : List Read) × Takes P (answer.Job j.function j.level) front
+      × All Keeps rest × Among (snapshot_loads j.function j.snapshot) rest × (rs ≡ front ++ rest)
 
   of_job : (j k : Job) (rs : List Read) → Some j ≡ Some k → JobPart P j rs → TakesAndReads k rs
   of_job j k rs e h =
@@ -89,7 +87,7 @@ module _ (P : Program) where
   own_snapshot (Taken f found) j rs e h = let never : None ≡ Some j = e in absurd cc
 
   pub warm_snapshot : (note : WorkNote) (j : Job) (rs : List Read) → job_of note ≡ Some j → WarmPart P note rs
-      → (found : ℕ) × (rest : List Read) × ReadsSnapshot j (raise (word.Taken j.function) found j.level ∷ []) rest rs
+      → (found : ℕ) × (rest : List Read) × All Keeps rest × Among (snapshot_loads j.function j.snapshot) rest × (rs ≡ (raise (word.Taken j.function) found j.level ∷ []) ++ rest)
   warm_snapshot note j rs e h =
       let k : MarkedPart P j rs = subst (λ (x : Job). MarkedPart P x rs) (same_Some h.0 j (sym h.1 ∙ e)) h.2 in
       (k.0, k.1, k.2.keep, k.2.loads, k.3)
