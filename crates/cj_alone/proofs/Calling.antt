@@ -30,18 +30,23 @@ module _ (P : Program) (start : Progress) where
   }
 
   -- one round more
-  pub rounds_push : (calls : List Begun) (call : Begun) (a b : Progress) → RoundsMade P calls start a → RoundMade P call a b → IsReliable (view_at b.seats) → RoundsMade P (calls ++ call ∷ []) start b
+  pub rounds_push : (calls : List Begun) (call : Begun) (a b : Progress) → RoundsMade P calls start a → RoundMade P call a b → IsReliable (view_at b.seats) →
+      RoundsMade P (calls ++ call ∷ []) start b
   rounds_push calls call a b h r ok = record {
     headline = subst (HasHeadline P (calls ++ call ∷ [])) (sym r.reports) (zip_push (Stands P) calls a.reports call r.report h.headline r.ran.stands);
     shows = λ (setups : List Setup) (p : Prepared P setups setups start.work (view_at start.seats) (reads_at start.seats)).
         subst (λ (rs : List Report). AloneShows P setups (calls ++ call ∷ []) rs b.work (view_at b.seats) (reads_at b.seats)) (sym r.reports)
-        (subst (λ (ns : List WorkNote). AloneShows P setups (calls ++ call ∷ []) (a.reports ++ r.report ∷ []) ns (view_at b.seats) (reads_at b.seats)) (sym r.work)
-        (alone_push P setups calls a.reports a.work (view_at a.seats) r.view (view_at b.seats) (reads_at a.seats) r.reads (reads_at b.seats) call r.report r.note (h.shows setups p) r.ran r.worked ok));
+        (subst (λ (ns : List WorkNote). AloneShows P setups (calls ++ call ∷ []) (a.reports ++ r.report ∷ []) ns (view_at b.seats) (reads_at b.seats))
+        (sym r.work)
+        (alone_push P setups calls a.reports a.work (view_at a.seats) r.view (view_at b.seats) (reads_at a.seats) r.reads
+        (reads_at b.seats) call r.report r.note (h.shows setups p) r.ran r.worked ok));
   }
 
   -- a loop's step
   pub rounds_more : (calls : List ScriptCall) (i : ℕ) (call : ScriptCall) (a b : Progress) → i < length calls → call ≡ get_or calls i call
-      → RoundsMade P (map begun (take i calls)) start a → RoundMade P (begun call) a b → IsReliable (view_at b.seats) → RoundsMade P (map begun (take (i + 1) calls)) start b
+      → RoundsMade P (map begun (take i calls)) start a → RoundMade P (begun call) a b → IsReliable (view_at b.seats) →
+      RoundsMade P (map begun (take (i + 1) calls)) start b
   rounds_more calls i call a b within is h r ok =
       let more : take (i + 1) calls ≡ take i calls ++ call ∷ [] = rw (← is) at (take_more calls i call within) in
-      subst (λ (cs : List Begun). RoundsMade P cs start b) (sym (ap (map begun) more ∙ map_push begun (take i calls) call)) (rounds_push (map begun (take i calls)) (begun call) a b h r ok)
+      subst (λ (cs : List Begun). RoundsMade P cs start b) (sym (ap (map begun) more ∙ map_push begun (take i calls) call))
+      (rounds_push (map begun (take i calls)) (begun call) a b h r ok)

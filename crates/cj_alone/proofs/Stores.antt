@@ -52,12 +52,14 @@ module _ (P : Program) (size : ℕ) (t : CodeTable) (p : Profile) (old new : Sea
   pub prepared_store : (setups : List Setup) (warm : List WorkNote) (first : ProfileSeat)
       → (program_of t ≡ P) × ((key_of t).size ≡ size) × ((key_of t).slots ≡ 1)
       → view_at old ≡ fresh (key_of t) → IsSole old.code → old.code.first ≡ true → old.code.splits ≡ 0
-      → counts.IsNew true first → counts.IsSole first → counts.IsSame first old.profile → counts.AddsPart (HintsPart (counts.program_of p) setups) first old.profile
+      → counts.IsNew true first → counts.IsSole first → counts.IsSame first old.profile →
+      counts.AddsPart (HintsPart (counts.program_of p) setups) first old.profile
       → WarmedUp P setups warm (view_at old) (reads_at old) (view_at new) (reads_at new)
       → IsPrepared P size setups warm (record { code = t; code_seat = new.code; profile = p; profile_seat = new.profile })
   prepared_store setups warm first key is_fresh sole is_first whole begins sole_first hinted hints warmed =
       let made : reads_at old ≡ hints.0 = hints.2 ∙ ap (λ (l : List Read). l ++ hints.0) begins.reads in
-      let set : HintsPart P setups (reads_at old) = subst (λ (Q : Program). HintsPart Q setups (reads_at old)) free.counted (subst (HintsPart (counts.program_of p) setups) (sym made) hints.1) in
+      let set : HintsPart P setups (reads_at old) = subst (λ (Q : Program). HintsPart Q setups (reads_at old)) free.counted
+      (subst (HintsPart (counts.program_of p) setups) (sym made) hints.1) in
       record {
         store = record {
           code = free.code;
@@ -80,14 +82,16 @@ module _ (P : Program) (size : ℕ) (t : CodeTable) (p : Profile) (old new : Sea
         code_sole = same.code.sole ∙ sole;
         profile_sole = same.profile.sole ∙ hinted.sole ∙ sole_first;
         free = free.free;
-        prepared = warmed setups (prepared_none P setups (view_at old) (reads_at old) (ap (λ (v : View). v.taken) is_fresh) (ap (λ (v : View). v.lookups) is_fresh) set);
+        prepared = warmed setups
+            (prepared_none P setups (view_at old) (reads_at old) (ap (λ (v : View). v.taken) is_fresh) (ap (λ (v : View). v.lookups) is_fresh) set);
       }
 
 -- the calls are made
 pub alone_stands : (P : Program) (size : ℕ) (setups : List Setup) (calls : List Begun) (s : Store) (start done : Progress)
     → start.seats ≡ record { code = s.code_seat; profile = s.profile_seat } → IsPrepared P size setups start.work s
     → IsFree P s.code s.profile done.seats → AreSame start.seats done.seats → RoundsMade P calls start done
-    → AloneStands P size setups calls done.reports done.work (record { code = s.code; code_seat = done.seats.code; profile = s.profile; profile_seat = done.seats.profile })
+    → AloneStands P size setups calls done.reports done.work
+    (record { code = s.code; code_seat = done.seats.code; profile = s.profile; profile_seat = done.seats.profile })
 alone_stands P size setups calls s start done at h free same rounds =
     let seats : Seats = record { code = s.code_seat; profile = s.profile_seat } in
     let prepared : Prepared P setups setups start.work (view_at start.seats) (reads_at start.seats) =

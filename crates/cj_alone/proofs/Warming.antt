@@ -27,9 +27,14 @@ one_more P xs i d within h = subst P (sym (take_more xs i d within)) h
 
 -- one hint more
 pub hints_more : (P : Program) (setups : List Setup) (i : ℕ) (d : Setup) (a b c : ProfileSeat) → i < length setups
-    → counts.AddsPart (HintsPart P (take i setups)) a b → counts.AddsPart (SetupPart (get_or setups i d)) b c → counts.AddsPart (HintsPart P (take (i + 1) setups)) a c
-hints_more P setups i d a b c within h k = one_more (λ (xs : List Setup). counts.AddsPart (HintsPart P xs) a c) setups i d within
-    (h.0 ++ k.0, hint_push P (take i setups) (get_or setups i d) h.0 k.0 h.1 k.1, k.2 ∙ ap (λ (l : List Read). l ++ k.0) h.2 ∙ append_assoc (counts.reads_of a) h.0 k.0)
+    → counts.AddsPart (HintsPart P (take i setups)) a b → counts.AddsPart (SetupPart (get_or setups i d)) b c →
+    counts.AddsPart (HintsPart P (take (i + 1) setups)) a c
+hints_more P setups i d a b c within h k = one_more (λ (xs : List Setup). counts.AddsPart (HintsPart P xs) a c) setups i d within (
+  h.0 ++ k.0,
+  hint_push P (take i setups) (get_or setups i d) h.0 k.0 h.1 k.1,
+  k.2 ∙ ap (λ (l : List Read). l ++ k.0) h.2
+      ∙ append_assoc (counts.reads_of a) h.0 k.0,
+)
 
 -- ---- `warm` lines
 
@@ -87,7 +92,8 @@ warming_none a warm ready none = record {
 
 -- one setup more
 pub warming_more : (setups : List Setup) (i : ℕ) (d : Setup) (a b c : Worker) (before after : List WorkNote) → i < length setups
-    → HasWarmedUp (take i setups) before a b → IsReady c → Stays b c → WarmsUp (get_or setups i d) b c before after → HasWarmedUp (take (i + 1) setups) after a c
+    → HasWarmedUp (take i setups) before a b → IsReady c → Stays b c → WarmsUp (get_or setups i d) b c before after →
+    HasWarmedUp (take (i + 1) setups) after a c
 warming_more setups i d a b c before after within h ready stays w = one_more (λ (xs : List Setup). HasWarmedUp xs after a c) setups i d within (record {
   ready = ready;
   stays = stays_on a b c h.stays stays;

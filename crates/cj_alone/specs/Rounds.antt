@@ -29,4 +29,5 @@ pub record RoundMade (P : Program) (call : Begun) (a b : Progress) : Type 0 wher
 -- of calls on one thread stand.
 pub record RoundsMade (P : Program) (calls : List Begun) (a b : Progress) : Type 0 where
   pub headline : HasHeadline P calls b.reports
-  pub shows : (setups : List Setup) → Prepared P setups setups a.work (view_at a.seats) (reads_at a.seats) → AloneShows P setups calls b.reports b.work (view_at b.seats) (reads_at b.seats)
+  pub shows : (setups : List Setup) → Prepared P setups setups a.work (view_at a.seats) (reads_at a.seats) →
+      AloneShows P setups calls b.reports b.work (view_at b.seats) (reads_at b.seats)

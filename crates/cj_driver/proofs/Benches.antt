@@ -7,12 +7,14 @@ use Rattle.cj_driver.specs.Texts.{AloneAnswers, TeamAnswers, OwesSummary, OwesTe
 use Rattle.cj_driver.specs.declared.finish.Made.{Made}
 use Rattle.cj_driver.specs.declared.team.Team.{Team}
 
-pub summary_owes : (number : ℕ) (input : Input) (made : Made) (owed : List ℕ) → input ≡ generated number → AloneAnswers input made → owed ≡ summary_text number made.reports → OwesSummary number made owed
+pub summary_owes : (number : ℕ) (input : Input) (made : Made) (owed : List ℕ) → input ≡ generated number → AloneAnswers input made →
+    owed ≡ summary_text number made.reports → OwesSummary number made owed
 summary_owes number input made owed same answers text =
     let P : Input → Type 0 = λ i. AloneAnswers i made in
     record { answers = subst P same answers; text = text }
 
-pub team_summary_owes : (number : ℕ) (team : Team) (input : Input) (made : Made) (owed : List ℕ) → input ≡ generated number → TeamAnswers team input made → owed ≡ summary_text number made.reports → OwesTeamSummary number team made owed
+pub team_summary_owes : (number : ℕ) (team : Team) (input : Input) (made : Made) (owed : List ℕ) → input ≡ generated number → TeamAnswers team input made →
+    owed ≡ summary_text number made.reports → OwesTeamSummary number team made owed
 team_summary_owes number team input made owed same answers text =
     let P : Input → Type 0 = λ i. TeamAnswers team i made in
     record { answers = subst P same answers; text = text }

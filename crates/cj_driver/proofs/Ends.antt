@@ -23,14 +23,16 @@ same_bytes given left bytes known whole is =
     subst P is whole.all
 
 -- known bytes have one reading
-one_reading : {A : Type 0} (R : List ℕ → Result A Refused → Type 0) (given left : Option (List ℕ)) (answer other : Result A Refused) (known : List ℕ) → WasRead R given left answer → given ≡ Some known → R known other → other ≡ answer
+one_reading : {A : Type 0} (R : List ℕ → Result A Refused → Type 0) (given left : Option (List ℕ)) (answer other : Result A Refused) (known : List ℕ) →
+    WasRead R given left answer → given ≡ Some known → R known other → other ≡ answer
 one_reading R given left answer other known read is reads =
     let same : known ≡ read.bytes = sym (same_bytes given left read.bytes known read.whole is) in
     let P : List ℕ → Type 0 = λ bytes. R bytes other in
     read.only other (subst P same reads)
 
 -- what was read whole was not too long
-not_more : (given left : Option (List ℕ)) (bytes : List ℕ) (known rest : List ℕ) → AreWhole given left bytes → given ≡ Some known → longest + length rest < length known → ⊥
+not_more : (given left : Option (List ℕ)) (bytes : List ℕ) (known rest : List ℕ) → AreWhole given left bytes → given ≡ Some known →
+    longest + length rest < length known → ⊥
 not_more given left bytes known rest whole is more =
     let same : bytes ≡ known = same_bytes given left bytes known whole is in
     let P : List ℕ → Type 0 = λ b. length b ≤ longest in
@@ -57,7 +59,8 @@ not_six s (inl e) six = let never : 0 ≡ 6 = sym e ∙ six in absurd (omega ari
 not_six s (inr e) six = let never : 5 ≡ 6 = sym e ∙ six in absurd (omega arith)
 
 -- what is owed was written
-pub written : (IsOwed : Made → List ℕ → Type 0) (made : Made) (owed : List ℕ) (had has : Option (List ℕ)) (faults faults_now : ℕ) (f : Finish) → IsOwed made owed → Writes made owed had has faults faults_now f → Finishes IsOwed had has faults faults_now f
+pub written : (IsOwed : Made → List ℕ → Type 0) (made : Made) (owed : List ℕ) (had has : Option (List ℕ)) (faults faults_now : ℕ) (f : Finish) →
+    IsOwed made owed → Writes made owed had has faults faults_now f → Finishes IsOwed had has faults faults_now f
 written IsOwed made owed had has faults faults_now f owes w =
     let owed_now : IsOwed f.made owed = subst (λ (m : Made). IsOwed m owed) (sym w.kept) owes in
     record {
@@ -71,7 +74,8 @@ written IsOwed made owed had has faults faults_now f owes w =
     }
 
 -- want of memory: nothing was written
-pub wanted : (IsOwed : Made → List ℕ → Type 0) (had : Option (List ℕ)) (faults : ℕ) (f : Finish) → f.status ≡ 6 → f.refused ≡ None → IsNothing f.made → Finishes IsOwed had had faults faults f
+pub wanted : (IsOwed : Made → List ℕ → Type 0) (had : Option (List ℕ)) (faults : ℕ) (f : Finish) → f.status ≡ 6 → f.refused ≡ None → IsNothing f.made →
+    Finishes IsOwed had had faults faults f
 wanted IsOwed had faults f status refused nothing = record {
   some = inr (inr status);
   refused = refused;
@@ -105,18 +109,21 @@ done_or_six s (inr (inl e)) no_five = absurd (no_five e)
 done_or_six s (inr (inr e)) no_five = inr e
 
 -- what is owed is what is told
-told_stands : (IsOwed IsTold : Made → List ℕ → Type 0) (o : Outside) (f : Finish) → ((made : Made) (owed : List ℕ) → IsOwed made owed → IsTold made owed) → Finishes IsOwed o.had o.has o.write_faults o.write_faults_now f → TopStands IsTold o f
+told_stands : (IsOwed IsTold : Made → List ℕ → Type 0) (o : Outside) (f : Finish) → ((made : Made) (owed : List ℕ) → IsOwed made owed → IsTold made owed) →
+    Finishes IsOwed o.had o.has o.write_faults o.write_faults_now f → TopStands IsTold o f
 told_stands IsOwed IsTold o f tell fin = record {
   done = λ s. let owed = fin.done s in (owed.0, tell f.made owed.0 owed.1, owed.2);
   cut = λ s. let owed = fin.cut s in (owed.0, owed.1, tell f.made owed.0 owed.2, owed.3);
   stop = λ a b. let none = fin.none (zero_five_six f.status fin.some a b) in record { unwritten = none.1; nothing = none.0 };
 }
 
-read_stands : {A : Type 0} (R : List ℕ → Result A Refused → Type 0) (IsOwed : A → Made → List ℕ → Type 0) (i : A) (o : Outside) (f : Finish) → WasRead R o.given o.left (Ok i) → Finishes (IsOwed i) o.had o.has o.write_faults o.write_faults_now f → TopStands (HasAnswer R IsOwed o) o f
+read_stands : {A : Type 0} (R : List ℕ → Result A Refused → Type 0) (IsOwed : A → Made → List ℕ → Type 0) (i : A) (o : Outside) (f : Finish) →
+    WasRead R o.given o.left (Ok i) → Finishes (IsOwed i) o.had o.has o.write_faults o.write_faults_now f → TopStands (HasAnswer R IsOwed o) o f
 read_stands R IsOwed i o f read fin =
     told_stands (IsOwed i) (HasAnswer R IsOwed o) o f (λ made owed owes. record { text = i; read = read; owes = owes }) fin
 
-read_causes : {A : Type 0} (R : List ℕ → Result A Refused → Type 0) (IsOwed : A → Made → List ℕ → Type 0) (i : A) (o : Outside) (f : Finish) → WasRead R o.given o.left (Ok i) → Finishes (IsOwed i) o.had o.has o.write_faults o.write_faults_now f → HasCauses R o f
+read_causes : {A : Type 0} (R : List ℕ → Result A Refused → Type 0) (IsOwed : A → Made → List ℕ → Type 0) (i : A) (o : Outside) (f : Finish) →
+    WasRead R o.given o.left (Ok i) → Finishes (IsOwed i) o.had o.has o.write_faults o.write_faults_now f → HasCauses R o f
 read_causes R IsOwed i o f read fin = record {
   some = is_status f.status fin.some;
   refused = λ s. never f.status 3 fin.some s (omega arith) (omega arith) (omega arith);
@@ -128,7 +135,8 @@ read_causes R IsOwed i o f read fin = record {
 }
 
 -- the source was read without a fault, or not at all
-written_faults : (IsOwed : Made → List ℕ → Type 0) (o : Outside) (f : Finish) → o.read_faults_now ≡ o.read_faults → Finishes IsOwed o.had o.has o.write_faults o.write_faults_now f → CountsFaults o f
+written_faults : (IsOwed : Made → List ℕ → Type 0) (o : Outside) (f : Finish) → o.read_faults_now ≡ o.read_faults →
+    Finishes IsOwed o.had o.has o.write_faults o.write_faults_now f → CountsFaults o f
 written_faults IsOwed o f calm fin = record {
   read = λ s. never f.status 4 fin.some s (omega arith) (omega arith) (omega arith);
   read_calm = λ s. calm;
@@ -136,7 +144,9 @@ written_faults IsOwed o f calm fin = record {
   write_calm = fin.calm;
 }
 
-pub read_answers : {A : Type 0} (R : List ℕ → Result A Refused → Type 0) (IsOwed : A → Made → List ℕ → Type 0) (i : A) (o : Outside) (f : Finish) → WasRead R o.given o.left (Ok i) → o.read_faults_now ≡ o.read_faults → Finishes (IsOwed i) o.had o.has o.write_faults o.write_faults_now f → Answers R IsOwed o f
+pub read_answers : {A : Type 0} (R : List ℕ → Result A Refused → Type 0) (IsOwed : A → Made → List ℕ → Type 0) (i : A) (o : Outside) (f : Finish) →
+    WasRead R o.given o.left (Ok i) → o.read_faults_now ≡ o.read_faults → Finishes (IsOwed i) o.had o.has o.write_faults o.write_faults_now f →
+    Answers R IsOwed o f
 read_answers R IsOwed i o f read calm fin = record {
   headline = read_stands R IsOwed i o f read fin;
   causes = read_causes R IsOwed i o f read fin;
@@ -146,7 +156,8 @@ read_answers R IsOwed i o f read calm fin = record {
 
 -- ---- the bench, which reads nothing
 
-pub benched : (IsOwed : Made → List ℕ → Type 0) (given had has : Option (List ℕ)) (reads writes writes_now : ℕ) (f : Finish) → Finishes IsOwed had has writes writes_now f → AnswersUnread IsOwed (outside given given had has reads reads writes writes_now) f
+pub benched : (IsOwed : Made → List ℕ → Type 0) (given had has : Option (List ℕ)) (reads writes writes_now : ℕ) (f : Finish) →
+    Finishes IsOwed had has writes writes_now f → AnswersUnread IsOwed (outside given given had has reads reads writes writes_now) f
 benched IsOwed given had has reads writes writes_now f fin =
     let o : Outside = outside given given had has reads reads writes writes_now in
     record {
@@ -160,7 +171,8 @@ benched IsOwed given had has reads writes writes_now f fin =
 
 -- ---- no text was read
 
-stop_stands : {A : Type 0} (R : List ℕ → Result A Refused → Type 0) (IsOwed : A → Made → List ℕ → Type 0) (o : Outside) (f : Finish) → Appends o.had o.has [] → IsNothing f.made → f.status ≢ 0 → f.status ≢ 5 → TopStands (HasAnswer R IsOwed o) o f
+stop_stands : {A : Type 0} (R : List ℕ → Result A Refused → Type 0) (IsOwed : A → Made → List ℕ → Type 0) (o : Outside) (f : Finish) → Appends o.had o.has [] →
+    IsNothing f.made → f.status ≢ 0 → f.status ≢ 5 → TopStands (HasAnswer R IsOwed o) o f
 stop_stands R IsOwed o f unwritten nothing no_zero no_five = record {
   done = λ s. absurd (no_zero s);
   cut = λ s. absurd (no_five s);
@@ -172,7 +184,8 @@ apart : {A : Type 0} (s m n : ℕ) → s ≡ m → s ≡ n → m ≢ n → A
 apart s m n a b differ = absurd (differ (sym a ∙ b))
 
 -- the sink was not touched, and the source counted no fault
-calm_faults : (o : Outside) (f : Finish) (s : ℕ) → f.status ≡ s → s ≢ 4 → s ≢ 5 → o.read_faults_now ≡ o.read_faults → o.write_faults_now ≡ o.write_faults → CountsFaults o f
+calm_faults : (o : Outside) (f : Finish) (s : ℕ) → f.status ≡ s → s ≢ 4 → s ≢ 5 → o.read_faults_now ≡ o.read_faults → o.write_faults_now ≡ o.write_faults →
+    CountsFaults o f
 calm_faults o f s is no_four no_five read write = record {
   read = λ e. apart f.status s 4 is e no_four;
   read_calm = λ no. read;
@@ -180,7 +193,8 @@ calm_faults o f s is no_four no_five read write = record {
   write_calm = λ no. write;
 }
 
-stop_faults : {A : Type 0} (R : List ℕ → Result A Refused → Type 0) (o : Outside) (s : Stop) (f : Finish) → o.write_faults_now ≡ o.write_faults → StopStands R o.given o.left o.read_faults o.read_faults_now s → StopFinishes s f → CountsFaults o f
+stop_faults : {A : Type 0} (R : List ℕ → Result A Refused → Type 0) (o : Outside) (s : Stop) (f : Finish) → o.write_faults_now ≡ o.write_faults →
+    StopStands R o.given o.left o.read_faults o.read_faults_now s → StopFinishes s f → CountsFaults o f
 stop_faults R o (stop.Refused r) f write stands fin = calm_faults o f 3 fin.status (omega arith) (omega arith) stands.1 write
 stop_faults R o stop.ReadFault f write stands fin = record {
   read = λ e. stands.0;
@@ -192,13 +206,15 @@ stop_faults R o stop.TooLong f write stands fin = calm_faults o f 7 fin.status (
 stop_faults R o stop.NoMemory f write stands fin = calm_faults o f 6 fin.status (omega arith) (omega arith) stands write
 
 -- what was taken up to a fault is not more than the longest input
-at_most : (given left : Option (List ℕ)) (known rest : List ℕ) → GaveAtMost given left longest → given ≡ Some known → left ≡ Some rest → longest + length rest < length known → ⊥
+at_most : (given left : Option (List ℕ)) (known rest : List ℕ) → GaveAtMost given left longest → given ≡ Some known → left ≡ Some rest →
+    longest + length rest < length known → ⊥
 at_most given left known rest gave is kept more =
     let P : Option (List ℕ) → Type 0 = λ g. GaveAtMost g left longest in
     let Q : Option (List ℕ) → Type 0 = λ l. GaveAtMost (Some known) l longest in
     let short : length known ≤ longest + length rest = subst Q kept (subst P is gave) in omega arith
 
-stop_causes : {A : Type 0} (R : List ℕ → Result A Refused → Type 0) (o : Outside) (s : Stop) (f : Finish) → StopStands R o.given o.left o.read_faults o.read_faults_now s → StopFinishes s f → HasCauses R o f
+stop_causes : {A : Type 0} (R : List ℕ → Result A Refused → Type 0) (o : Outside) (s : Stop) (f : Finish) →
+    StopStands R o.given o.left o.read_faults o.read_faults_now s → StopFinishes s f → HasCauses R o f
 stop_causes R o (stop.Refused r) f stands fin = record {
   some = inr (inl fin.status);
   refused = λ e. record { refused = r; told = fin.refused; read = stands.0 };
@@ -221,7 +237,8 @@ stop_causes R o stop.TooLong f stands fin = record {
   some = inr (inr (inr (inr (inr fin.status))));
   refused = λ e. apart f.status 7 3 fin.status e (omega arith);
   refused_alone = λ no. fin.refused;
-  refused_owed = λ bytes x told reads not_four. let more : longest < length bytes = longer o.given o.left bytes stands.0 told.given in absurd (too_short bytes told.short more);
+  refused_owed = λ bytes x told reads not_four. let more : longest
+      < length bytes = longer o.given o.left bytes stands.0 told.given in absurd (too_short bytes told.short more);
   read = λ e. apart f.status 7 4 fin.status e (omega arith);
   long = λ e. stands.0;
   long_owed = λ told. inl fin.status;
@@ -240,7 +257,8 @@ stop_causes R o stop.NoMemory f stands fin = record {
 }
 
 -- a source that gives a text and counts no fault is not left so, want of memory aside
-stop_complete : {A : Type 0} (R : List ℕ → Result A Refused → Type 0) (o : Outside) (s : Stop) (f : Finish) → StopStands R o.given o.left o.read_faults o.read_faults_now s → StopFinishes s f → IsComplete R o f
+stop_complete : {A : Type 0} (R : List ℕ → Result A Refused → Type 0) (o : Outside) (s : Stop) (f : Finish) →
+    StopStands R o.given o.left o.read_faults o.read_faults_now s → StopFinishes s f → IsComplete R o f
 stop_complete R o (stop.Refused r) f stands fin calm =
     let same : Ok calm.text ≡ Err r = one_reading R o.given o.left (Err r) (Ok calm.text) calm.bytes stands.0 calm.given calm.reads in cc
 stop_complete R o stop.ReadFault f stands fin calm = absurd (calm.no_read_fault stands.0)
@@ -259,7 +277,9 @@ no_answer stop.TooLong f fin = (λ e. apart f.status 7 0 fin.status e (omega ari
 no_answer stop.NoMemory f fin = (λ e. apart f.status 6 0 fin.status e (omega arith), λ e. apart f.status 6 5 fin.status e (omega arith))
 
 -- a call that stopped before it touched the sink
-pub stopped : {A : Type 0} (R : List ℕ → Result A Refused → Type 0) (IsOwed : A → Made → List ℕ → Type 0) (given left had : Option (List ℕ)) (faults faults_now writes : ℕ) (s : Stop) (f : Finish) → StopStands R given left faults faults_now s → StopFinishes s f → Answers R IsOwed (outside given left had had faults faults_now writes writes) f
+pub stopped : {A : Type 0} (R : List ℕ → Result A Refused → Type 0) (IsOwed : A → Made → List ℕ → Type 0) (given left had : Option (List ℕ))
+    (faults faults_now writes : ℕ) (s : Stop) (f : Finish) → StopStands R given left faults faults_now s → StopFinishes s f →
+    Answers R IsOwed (outside given left had had faults faults_now writes writes) f
 stopped R IsOwed given left had faults faults_now writes s f stands fin =
     let o : Outside = outside given left had had faults faults_now writes writes in
     let no = no_answer s f fin in
@@ -271,7 +291,8 @@ stopped R IsOwed given left had faults faults_now writes s f stands fin =
     }
 
 -- where no bytes were read, no text was
-pub bytes_stop : {A : Type 0} (R : List ℕ → Result A Refused → Type 0) (given left : Option (List ℕ)) (faults faults_now : ℕ) (s : Stop) → BytesStop given left faults faults_now s → StopStands R given left faults faults_now s
+pub bytes_stop : {A : Type 0} (R : List ℕ → Result A Refused → Type 0) (given left : Option (List ℕ)) (faults faults_now : ℕ) (s : Stop) →
+    BytesStop given left faults faults_now s → StopStands R given left faults faults_now s
 bytes_stop R given left faults faults_now (stop.Refused r) h = absurd h
 bytes_stop R given left faults faults_now stop.ReadFault h = h
 bytes_stop R given left faults faults_now stop.TooLong h = h

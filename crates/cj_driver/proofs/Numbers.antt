@@ -16,13 +16,15 @@ digits_all [] = refl
 digits_all (byte ∷ bytes) = ap (λ rest. is_ascii_digit byte && rest) (digits_all bytes)
 
 -- up to six digits are read as a u32
-read_as : {E : Type 0} (bytes : List ℕ) (answer : Result ℕ E) → list_all is_ascii_digit bytes ≡ true → 0 < length bytes → length bytes ≤ 6 → ParsesUnsigned 32 10 bytes answer → answer ≡ Ok (value 0 bytes)
+read_as : {E : Type 0} (bytes : List ℕ) (answer : Result ℕ E) → list_all is_ascii_digit bytes ≡ true → 0 < length bytes → length bytes ≤ 6 →
+    ParsesUnsigned 32 10 bytes answer → answer ≡ Ok (value 0 bytes)
 read_as bytes answer digits some short parses =
     let all : all_ascii_digits bytes ≡ true = sym (digits_all bytes) ∙ digits in
     let small : value 0 bytes < 10 ^ 6 = digits_value_short value_is_numeral bytes 6 all short in
     parse_gives value_is_numeral 32 bytes answer parses all some (omega (arith, small))
 
-bench_value : {E : Type 0} (bytes : List ℕ) (answer : Result ℕ E) → is_bench_number bytes ≡ true → ParsesUnsigned 32 10 bytes answer → answer ≡ Ok (value 0 bytes)
+bench_value : {E : Type 0} (bytes : List ℕ) (answer : Result ℕ E) → is_bench_number bytes ≡ true → ParsesUnsigned 32 10 bytes answer →
+    answer ≡ Ok (value 0 bytes)
 bench_value bytes answer is parses =
     let digits : list_all is_ascii_digit bytes ≡ true = search (rules, is) in
     let some : 0 < length bytes = grind (arith, nat_tests, is) in
@@ -30,7 +32,8 @@ bench_value bytes answer is parses =
     read_as bytes answer digits some short parses
 
 -- the bench of the number that was read
-pub bench_read : {E : Type 0} (bytes : List ℕ) (answer : Result ℕ E) (number : ℕ) → is_bench_number bytes ≡ true → ParsesUnsigned 32 10 bytes answer → answer ≡ Ok number → Some (Bench number) ≡ bench_of bytes
+pub bench_read : {E : Type 0} (bytes : List ℕ) (answer : Result ℕ E) (number : ℕ) → is_bench_number bytes ≡ true → ParsesUnsigned 32 10 bytes answer →
+    answer ≡ Ok number → Some (Bench number) ≡ bench_of bytes
 unfolding bench_of
 bench_read bytes answer number is parses read =
     let same : Ok (value 0 bytes) ≡ Ok number = sym (bench_value bytes answer is parses) ∙ read in
@@ -38,6 +41,7 @@ bench_read bytes answer number is parses read =
     rw (is, e) refl
 
 -- a number is read
-pub bench_unread : {E : Type 0} (bytes : List ℕ) (answer : Result ℕ E) (error : E) → is_bench_number bytes ≡ true → ParsesUnsigned 32 10 bytes answer → answer ≡ Err error → None ≡ bench_of bytes
+pub bench_unread : {E : Type 0} (bytes : List ℕ) (answer : Result ℕ E) (error : E) → is_bench_number bytes ≡ true → ParsesUnsigned 32 10 bytes answer →
+    answer ≡ Err error → None ≡ bench_of bytes
 bench_unread bytes answer error is parses read =
     let never : Ok (value 0 bytes) ≡ Err error = sym (bench_value bytes answer is parses) ∙ read in cc

@@ -1,5 +1,6 @@
 -- The calls of a caller, one by one.
-use Rattle.std.proofs.Common.{◌≡◌, ◌∙◌, refl, sym, ap, subst, ℕ, zero, suc, ◌+◌, ◌<◌, ◌≤◌, List, [], ◌∷◌, ◌++◌, map, length, drop, get_or, arith, append_assoc, append-nil}
+use Rattle.std.proofs.Common.{◌≡◌, ◌∙◌, refl, sym, ap, subst, ℕ, zero, suc, ◌+◌, ◌<◌, ◌≤◌, List, [], ◌∷◌, ◌++◌, map, length, drop, get_or, arith, append_assoc}
+use Rattle.std.proofs.Common.{append-nil}
 use Rattle.std.proofs.lemmas.List.{map_push}
 use Rattle.cj_ir.specs.declared.script.ScriptCall.{ScriptCall}
 use Rattle.cj_ir.specs.declared.language.Program.{Program}
@@ -32,7 +33,8 @@ module _ (calls : List ScriptCall) (callers first : ℕ) (a : Session) where
   runs_none = record { so_far = []; all = sym (share_drop callers first calls); runs = λ floor k. k }
 
   module _ (at : ℕ) (reports : List Report) (b : Session) (h : RunsSome calls callers first at reports a b) where
-    pub runs_more : (call : ScriptCall) (after : List Report) (c : Session) → Stays a b → IsReady c → 0 < callers → at < length calls → call ≡ get_or calls at call
+    pub runs_more : (call : ScriptCall) (after : List Report) (c : Session) → Stays a b → IsReady c → 0 < callers → at < length calls →
+        call ≡ get_or calls at call
         → RunsCall (begun call) reports after b c → RunsSome calls callers first (at + callers) after a c
     runs_more call after c stays ready some lt is r =
         let P : Program = a.checked.now in
@@ -40,11 +42,13 @@ module _ (calls : List ScriptCall) (callers first : ℕ) (a : Session) where
         subst (λ (Q : Program). Ran Q (begun call) r.report (view_in b) (view_in c) (reads_in b) (reads_in c)) stays.checked r.ran in
         record {
           so_far = h.so_far ++ call ∷ [];
-          all = append_assoc h.so_far (call ∷ []) (share callers 0 (drop (at + callers) calls)) ∙ ap (λ l. h.so_far ++ l) (sym (share_next callers at calls call some lt is)) ∙ h.all;
+          all = append_assoc h.so_far (call ∷ []) (share callers 0 (drop (at + callers) calls))
+              ∙ ap (λ l. h.so_far ++ l) (sym (share_next callers at calls call some lt is)) ∙ h.all;
           runs = λ (floor : List Look) (k : CallsMade P floor [] [] (view_in a) (reads_in a)).
               subst (λ (rs : List Report). CallsMade P floor (map begun (h.so_far ++ call ∷ [])) rs (view_in c) (reads_in c)) (sym r.reports)
               (subst (λ (cs : List Begun). CallsMade P floor cs (reports ++ r.report ∷ []) (view_in c) (reads_in c)) (sym (map_push begun h.so_far call))
-              (calls_push P floor (map begun h.so_far) reports (begun call) r.report (view_in b) (view_in c) (reads_in b) (reads_in c) (h.runs floor k) ran ready.code.reliable));
+              (calls_push P floor (map begun h.so_far) reports (begun call) r.report (view_in b) (view_in c) (reads_in b) (reads_in c)
+              (h.runs floor k) ran ready.code.reliable));
         }
 
     pub runs_all : length calls ≤ at → RunsCalls (map begun (share callers first calls)) reports a b

@@ -34,7 +34,8 @@ zip_none R [] h = refl
 zip_none R (x ∷ xs) h = absurd h
 
 -- the last of the items
-zip_last : {A B : Type 0} (R : A → B → Type 0) (xs : List A) (ys : List B) (y : B) → AllZip R xs (ys ++ y ∷ []) → (front : List A) × (x : A) × (xs ≡ front ++ x ∷ []) × AllZip R front ys × R x y
+zip_last : {A B : Type 0} (R : A → B → Type 0) (xs : List A) (ys : List B) (y : B) → AllZip R xs (ys ++ y ∷ []) →
+    (front : List A) × (x : A) × (xs ≡ front ++ x ∷ []) × AllZip R front ys × R x y
 zip_last R [] [] y h = absurd h
 zip_last R [] (z ∷ ys) y h = absurd h
 zip_last R (x ∷ xs) [] y h = ([], x, ap (λ l. x ∷ l) (zip_none R xs h.1), tt, h.0)
@@ -50,7 +51,14 @@ work_push [] d = append-nil d.work
 work_push (x ∷ xs) d = ap (λ (y : List WorkNote). x.work ++ y) (work_push xs d) ∙ sym (append_assoc x.work (work_of xs) d.work)
 
 same_store : (a : Store) → IsSameStore a a
-same_store a = record { code_table = refl; profile_table = refl; code = record { table = refl; first = refl; splits = refl; sole = refl }; profile_first = refl; profile_splits = refl }
+same_store a = record {
+  code_table = refl;
+  profile_table = refl;
+  code = record { table = refl; first = refl; splits = refl; sole = refl };
+  profile_first =
+      refl;
+  profile_splits = refl;
+}
 
 code_same_on : (s t u : CodeSeat) → IsSame s t → IsSame t u → IsSame s u
 code_same_on s t u g h = record { table = h.table ∙ g.table; first = h.first ∙ g.first; splits = h.splits ∙ g.splits; sole = h.sole ∙ g.sole }
@@ -97,16 +105,22 @@ module _ (warm : List WorkNote) (a : Store) where
         (role_of calls floor role) done.reports.items done.work done.code_seat done.profile_seat h.joined r in
         record {
           ended = h.ended ++ d ∷ [];
-          are_roles = map_push (λ (x : record_of.Done). x.role) h.ended d ∙ ap (λ l. l ++ role_of calls floor role ∷ []) h.are_roles ∙ sym (map_push (role_of calls floor) roles role);
+          are_roles = map_push (λ (x : record_of.Done). x.role) h.ended d ∙ ap (λ l. l ++ role_of calls floor role ∷ []) h.are_roles
+              ∙ sym (map_push (role_of calls floor) roles role);
           are_reports = map_push (λ (x : record_of.Done). x.reports) h.ended d ∙ ap (λ l. l ++ done.reports.items ∷ []) h.are_reports
               ∙ sym (map_push (λ pile. pile.items) before.piles.items done.reports) ∙ ap (map (λ pile. pile.items)) (sym piles);
-          are_notes = work ∙ ap (λ l. l ++ done.work) h.are_notes ∙ append_assoc warm (work_of h.ended) done.work ∙ ap (λ l. warm ++ l) (sym (work_push h.ended d));
-          joined = subst (λ (v : View). Joined P size setups warm (h.ended ++ d ∷ []) v (counts.reads_of c.profile_seat) (counts.joined_of c.profile_seat)) (sym takes.view)
-              (subst (λ (rs : List Read). Joined P size setups warm (h.ended ++ d ∷ []) (joined_view (view_of b.code_seat) (view_of done.code_seat)) rs (counts.joined_of c.profile_seat)) (sym takes.reads)
-              (subst (λ (rss : List (List Read)). Joined P size setups warm (h.ended ++ d ∷ []) (joined_view (view_of b.code_seat) (view_of done.code_seat)) (counts.reads_of b.profile_seat) rss) (sym takes.joined) more));
+          are_notes = work ∙ ap (λ l. l ++ done.work) h.are_notes ∙ append_assoc warm (work_of h.ended) done.work
+              ∙ ap (λ l. warm ++ l) (sym (work_push h.ended d));
+          joined = subst (λ (v : View). Joined P size setups warm (h.ended ++ d ∷ []) v (counts.reads_of c.profile_seat) (counts.joined_of c.profile_seat))
+              (sym takes.view)
+              (subst (λ (rs : List Read). Joined P size setups warm (h.ended ++ d ∷ []) (joined_view (view_of b.code_seat) (view_of done.code_seat)) rs
+              (counts.joined_of c.profile_seat)) (sym takes.reads)
+              (subst (λ (rss : List (List Read)). Joined P size setups warm (h.ended ++ d ∷ []) (joined_view (view_of b.code_seat) (view_of done.code_seat))
+              (counts.reads_of b.profile_seat) rss) (sym takes.joined) more));
         }
 
-  pub joining_more : (slots : List Slot) (slot : Slot) (b c : Store) (before after : Answers) → IsJoining slots warm a before b → JoinsSlot slot b before c after → IsJoining (slots ++ slot ∷ []) warm a after c
+  pub joining_more : (slots : List Slot) (slot : Slot) (b c : Store) (before after : Answers) → IsJoining slots warm a before b →
+      JoinsSlot slot b before c after → IsJoining (slots ++ slot ∷ []) warm a after c
   joining_more slots slot b c before after h s = record {
     can = s.takes.can;
     same = same_on a b c h.same s.takes.same;
@@ -114,12 +128,14 @@ module _ (warm : List WorkNote) (a : Store) where
         let q = zip_last (HasEnded calls a.code a.profile v) roles slots slot zip in
         let ends : RoleEnds calls a.code a.profile (given v) q.1 s.done = subst (HasEnded calls a.code a.profile v q.1) s.is_done q.4 in
         subst (λ (rs : List Role). HasJoined (program_of a.code) (key_of a.code).size setups warm (map (role_of calls floor) rs) after c) (sym q.2)
-        (has_joined (program_of a.code) (key_of a.code).size setups calls floor q.0 q.1 b c before after s.done (h.joins calls v q.0 setups floor q.3 seen j) (ends.stands floor seen) s.takes s.piles s.work);
+        (has_joined (program_of a.code) (key_of a.code).size setups calls floor q.0 q.1 b c before after s.done (h.joins calls v q.0 setups floor q.3 seen j)
+        (ends.stands floor seen) s.takes s.piles s.work);
   }
 
   -- what the seat knows is confirmed
   pub joins_all : (slots : List Slot) (b c : Store) (answers : Answers) → IsJoining slots warm a answers b
-      → Belongs c.code c.code_seat → c.code ≡ b.code → c.profile ≡ b.profile → c.profile_seat ≡ b.profile_seat → IsSame b.code_seat c.code_seat → view_of c.code_seat ≡ view_of b.code_seat
+      → Belongs c.code c.code_seat → c.code ≡ b.code → c.profile ≡ b.profile → c.profile_seat ≡ b.profile_seat → IsSame b.code_seat c.code_seat →
+      view_of c.code_seat ≡ view_of b.code_seat
       → JoinsAll slots warm a answers c
   joins_all slots b c answers h own table profile seat same view = record {
     code = own;

@@ -1,5 +1,6 @@
 -- Reports taken from the piles, one by one.
-use Rattle.std.proofs.Common.{◌≡◌, ◌∙◌, refl, sym, ap, subst, ℕ, zero, suc, ◌+◌, ◌<◌, List, [], ◌∷◌, ◌++◌, map, drop, length, arith, append_assoc, append-nil, length-append}
+use Rattle.std.proofs.Common.{◌≡◌, ◌∙◌, refl, sym, ap, subst, ℕ, zero, suc, ◌+◌, ◌<◌, List, [], ◌∷◌, ◌++◌, map, drop, length, arith, append_assoc, append-nil}
+use Rattle.std.proofs.Common.{length-append}
 use Rattle.std.proofs.lemmas.List.{map_push}
 use Rattle.cj_records.specs.Chains.{alone_each, dealt}
 use Rattle.cj_roles.specs.Piles.{ArePiles, IsFirst, TakesFirst}
@@ -30,7 +31,8 @@ module _ {A : Type 0} where
       let both = take_first n y ys (x ∷ t.0) t.1 (as_shares (suc n) (y ∷ ys) ((x ∷ t.0) ∷ t.1) refl all.are) in
       let pile : t.0 ≡ _ = ap rest both.0 in (
         sym (ap (first_or x) both.0),
-        subst (ArePiles ys) (sym t.3) (from_shares n ys (t.1 ++ t.0 ∷ []) (omega (arith, length-append t.1 (t.0 ∷ []))) (both.1 ∙ ap (λ l. t.1 ++ l ∷ []) (sym pile))),
+        subst (ArePiles ys) (sym t.3)
+            (from_shares n ys (t.1 ++ t.0 ∷ []) (omega (arith, length-append t.1 (t.0 ∷ []))) (both.1 ∙ ap (λ l. t.1 ++ l ∷ []) (sym pile))),
       )
 
   pub put_back : (x : A) (old new : List (List A)) (xs : List A) → TakesFirst x old new → ArePiles xs new → ArePiles (x ∷ xs) old
@@ -38,7 +40,8 @@ module _ {A : Type 0} where
       let n = length t.1 in
       let some : length (t.1 ++ t.0 ∷ []) ≡ suc n = omega (arith, length-append t.1 (t.0 ∷ [])) in
       let all : ArePiles xs (t.1 ++ t.0 ∷ []) = subst (ArePiles xs) t.3 h in
-      subst (ArePiles (x ∷ xs)) (sym t.2) (from_shares n (x ∷ xs) ((x ∷ t.0) ∷ t.1) refl (put_first n x xs t.0 t.1 (as_shares (suc n) xs (t.1 ++ t.0 ∷ []) some all.are)))
+      subst (ArePiles (x ∷ xs)) (sym t.2)
+      (from_shares n (x ∷ xs) ((x ∷ t.0) ∷ t.1) refl (put_first n x xs t.0 t.1 (as_shares (suc n) xs (t.1 ++ t.0 ∷ []) some all.are)))
 
   -- the first of some reports is the first of the piles
   pub is_first : (x : A) (xs : List A) (piles : List (List A)) → ArePiles (x ∷ xs) piles → IsFirst x piles
@@ -60,7 +63,8 @@ module _ {A : Type 0} where
   pub gathers_none : (count : ℕ) (all : List (List A)) (xs : List A) → ArePiles xs all → length xs ≡ count → Gathering count 0 [] all all
   gathers_none count all xs h e = record { left = xs; are_left = h; counted = refl; count_is = omega (arith, e); goes_on = λ more k. k }
 
-  pub gathers_first : (count taken : ℕ) (reports : List A) (all piles : List (List A)) → Gathering count taken reports all piles → taken < count → (x : A) × IsFirst x piles
+  pub gathers_first : (count taken : ℕ) (reports : List A) (all piles : List (List A)) → Gathering count taken reports all piles → taken < count →
+      (x : A) × IsFirst x piles
   gathers_first count taken reports all piles h lt = first h.left h.are_left h.count_is
     where
       first : (left : List A) → ArePiles left piles → taken + length left ≡ count → (x : A) × IsFirst x piles
@@ -81,7 +85,8 @@ module _ {A : Type 0} where
         goes_on = λ later z. subst (λ l. ArePiles l all) (sym (append_assoc reports (x ∷ []) later)) (h.goes_on (x ∷ later) (put_back x piles new later t z));
       }
 
-  pub gathers_all : (count : ℕ) (reports : List A) (all piles : List (List A)) → Gathering count count reports all piles → ArePiles reports all × (length reports ≡ count)
+  pub gathers_all : (count : ℕ) (reports : List A) (all piles : List (List A)) → Gathering count count reports all piles →
+      ArePiles reports all × (length reports ≡ count)
   gathers_all count reports all piles h = (last h.left h.are_left h.count_is, h.counted)
     where
       last : (left : List A) → ArePiles left piles → count + length left ≡ count → ArePiles reports all

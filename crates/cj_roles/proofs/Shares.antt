@@ -1,5 +1,6 @@
 -- Calls that are dealt to callers, one by one, and their reports put together again.
-use Rattle.std.proofs.Common.{◌≡◌, ◌∙◌, refl, sym, ap, subst, ℕ, zero, suc, ◌+◌, ◌-◌, ◌<◌, ◌≤◌, List, [], ◌∷◌, ◌++◌, map, length, drop, get_or, arith, length-append}
+use Rattle.std.proofs.Common.{◌≡◌, ◌∙◌, refl, sym, ap, subst, ℕ, zero, suc, ◌+◌, ◌-◌, ◌<◌, ◌≤◌, List, [], ◌∷◌, ◌++◌, map, length, drop, get_or, arith}
+use Rattle.std.proofs.Common.{length-append}
 use Rattle.std.specs.List.{AllZip}
 use Rattle.std.proofs.lemmas.List.{map_push}
 use Rattle.cj_parts.proofs.Growth.{zip_push}
@@ -42,7 +43,8 @@ share_drop c zero xs = refl
 share_drop c (suc k) [] = refl
 share_drop c (suc k) (x ∷ xs) = share_drop c k xs
 
-pub share_next : {A : Type 0} (c at : ℕ) (xs : List A) (x : A) → 0 < c → at < length xs → x ≡ get_or xs at x → share c 0 (drop at xs) ≡ x ∷ share c 0 (drop (at + c) xs)
+pub share_next : {A : Type 0} (c at : ℕ) (xs : List A) (x : A) → 0 < c → at < length xs → x ≡ get_or xs at x →
+    share c 0 (drop at xs) ≡ x ∷ share c 0 (drop (at + c) xs)
 unfolding share
 share_next c at [] x some lt is = absurd (omega (arith, lt))
 share_next zero zero (y ∷ ys) x some lt is = absurd (omega (arith, some))
@@ -98,7 +100,8 @@ module _ {A : Type 0} (n : ℕ) where
       ∙ map_push (λ k. share (suc n) k xs) (numbers_from 0 n) n
 
   -- the first report is the first pile's, which comes last from then on
-  pub take_first : (x : A) (xs p : List A) (ps : List (List A)) → shares (suc n) (x ∷ xs) ≡ p ∷ ps → (p ≡ x ∷ share (suc n) n xs) × (shares (suc n) xs ≡ ps ++ share (suc n) n xs ∷ [])
+  pub take_first : (x : A) (xs p : List A) (ps : List (List A)) → shares (suc n) (x ∷ xs) ≡ p ∷ ps →
+      (p ≡ x ∷ share (suc n) n xs) × (shares (suc n) xs ≡ ps ++ share (suc n) n xs ∷ [])
   unfolding first_or rest others
   take_first x xs p ps e =
       let both = sym (shares_cons x xs) ∙ e in
@@ -116,7 +119,8 @@ abbrev AreAsLong : {A B : Type 0} → List (List A) → List (List B) → Type 0
 AreAsLong xss yss = AllZip (λ xs ys. length xs ≡ length ys) xss yss
 
 -- no calls fill no pile
-no_reports : (A : Type 0) {B : Type 0} (c : ℕ) (ks : List ℕ) (piles : List (List B)) → AreAsLong (map (λ k. share {A = A} c k []) ks) piles → map (λ k. share {A = B} c k []) ks ≡ piles
+no_reports : (A : Type 0) {B : Type 0} (c : ℕ) (ks : List ℕ) (piles : List (List B)) → AreAsLong (map (λ k. share {A = A} c k []) ks) piles →
+    map (λ k. share {A = B} c k []) ks ≡ piles
 unfolding share
 no_reports A c [] [] h = refl
 no_reports A c [] (p ∷ ps) h = absurd h
@@ -124,13 +128,15 @@ no_reports A c (k ∷ ks) [] h = absurd h
 no_reports A c (k ∷ ks) ([] ∷ ps) h = ap (λ l. [] ∷ l) (no_reports A c ks ps h.1)
 no_reports A c (k ∷ ks) ((x ∷ p) ∷ ps) h = let e : 0 ≡ suc (length p) = h.0 in absurd (omega (arith, e))
 
-pub piled : {A B : Type 0} (n : ℕ) (calls : List A) (piles : List (List B)) → AreAsLong (shares (suc n) calls) piles → (reports : List B) × (shares (suc n) reports ≡ piles) × (length reports ≡ length calls)
+pub piled : {A B : Type 0} (n : ℕ) (calls : List A) (piles : List (List B)) → AreAsLong (shares (suc n) calls) piles →
+    (reports : List B) × (shares (suc n) reports ≡ piles) × (length reports ≡ length calls)
 unfolding shares
 piled {A = A} n [] piles h = ([], no_reports A (suc n) (numbers_from 0 (suc n)) piles h, refl)
 piled {B = B} n (x ∷ xs) piles h = next (λ ps k. piled n xs ps k) piles (subst (λ l. AreAsLong l piles) (shares_cons n x xs) h)
   where
     next : ((ps : List (List B)) → AreAsLong (shares (suc n) xs) ps → (reports : List B) × (shares (suc n) reports ≡ ps) × (length reports ≡ length xs))
-        → (ps : List (List B)) → AreAsLong ((x ∷ share (suc n) n xs) ∷ others n xs) ps → (reports : List B) × (shares (suc n) reports ≡ ps) × (length reports ≡ suc (length xs))
+        → (ps : List (List B)) → AreAsLong ((x ∷ share (suc n) n xs) ∷ others n xs) ps → (reports : List B) × (shares (suc n) reports ≡ ps)
+        × (length reports ≡ suc (length xs))
     next more [] h = absurd h
     next more ([] ∷ ps) h = let e : suc (length (share (suc n) n xs)) ≡ 0 = h.0 in absurd (omega (arith, e))
     next more ((y ∷ q) ∷ ps) h =

@@ -1,5 +1,6 @@
 -- The clauses of a run, from what its roles have come to.
-use Rattle.std.proofs.Common.{◌≡◌, ◌∙◌, refl, sym, ap, subst, ℕ, zero, suc, ◌+◌, ◌<◌, ◌≤◌, None, Some, Option, List, [], ◌∷◌, ◌++◌, map, take, drop, replicate, length, arith, append-nil}
+use Rattle.std.proofs.Common.{◌≡◌, ◌∙◌, refl, sym, ap, subst, ℕ, zero, suc, ◌+◌, ◌<◌, ◌≤◌, None, Some, Option, List, [], ◌∷◌, ◌++◌, map, take, drop, replicate}
+use Rattle.std.proofs.Common.{length, arith, append-nil}
 use Rattle.std.specs.Prelude.{All}
 use Rattle.std.specs.List.{AllZip}
 use Rattle.std.proofs.lemmas.List.{map-append, length-map, take_all}
@@ -64,7 +65,8 @@ use Rattle.cj_roles.proofs.Dealt.{length_roles}
 
 seen_of : (v : View) (n : WorkNote) (code : Option Code) → IsShown v n code → All (IsSeen v) (published n)
 unfolding published
-seen_of v (Published f level offset s skipped) (Some code) h = let at = h.1 in All-cons (IsSeen v) (record { function = f; offset = offset }) [] (at.0, at.1, at.2, at.3) (All-nil (IsSeen v))
+seen_of v (Published f level offset s skipped) (Some code) h = let at = h.1 in All-cons (IsSeen v) (record { function = f; offset = offset }) []
+    (at.0, at.1, at.2, at.3) (All-nil (IsSeen v))
 seen_of v (Published f level offset s skipped) None h = absurd h
 seen_of v (Older f level mine later s) code h = All-nil (IsSeen v)
 seen_of v (Full f level next need s) code h = All-nil (IsSeen v)
@@ -109,7 +111,9 @@ module _ (calls : List ScriptCall) (callers : ℕ) where
 
   groups_are : groups ≡ map calls_of (numbers_from 0 callers)
   unfolding calls_of shares
-  groups_are = dealt_alone callers (map begun calls) ∙ map_same (λ k. share callers k (map begun calls)) (λ k. map begun (share callers k calls)) (λ k. share_map begun callers k calls) (numbers_from 0 callers)
+  groups_are = dealt_alone callers (map begun calls)
+      ∙ map_same (λ k. share callers k (map begun calls)) (λ k. map begun (share callers k calls)) (λ k. share_map begun callers k calls)
+      (numbers_from 0 callers)
 
   pub roles_are : (floor : List Look) (workers : ℕ) → map (role_of calls floor) (roles_in callers workers) ≡ roles_of groups floor workers
   unfolding roles_of calls_of
@@ -119,7 +123,8 @@ module _ (calls : List ScriptCall) (callers : ℕ) where
       let front : map (role_of calls floor) (callers_to callers callers) ≡ map caller made =
       map_twice (λ (k : ℕ). role.Caller k callers) (role_of calls floor) (numbers_from 0 callers) ∙ sym (map_twice calls_of caller (numbers_from 0 callers)) in
       let back : map (role_of calls floor) (replicate workers (role.Worker callers)) ≡ replicate workers (record_of.Worker (length made)) =
-      map_replicate (role_of calls floor) workers (role.Worker callers) ∙ ap (λ n. replicate workers (record_of.Worker n)) (sym (length_numbers calls_of 0 callers)) in
+      map_replicate (role_of calls floor) workers (role.Worker callers)
+      ∙ ap (λ n. replicate workers (record_of.Worker n)) (sym (length_numbers calls_of 0 callers)) in
       map-append (role_of calls floor) (callers_to callers callers) (replicate workers (role.Worker callers))
       ∙ (λ i. front i ++ back i)
       ∙ sym (ap (λ gs. roles_of gs floor workers) groups_are)
@@ -144,12 +149,14 @@ module _ (P : Program) (codes : Codes) (floor : List Look) (n : ℕ) where
   caller_long : (g : List Begun) (d : record_of.Done) → d.role ≡ record_of.Caller g floor → record_of.IsRecord P codes d → length g ≡ length d.reports
   caller_long g d e h =
       let r : record_of.CallerRecord P codes g floor d = subst (λ (x : record_of.Role). record_of.RoleRecord P codes x d) e h in
-      sym (ap length r.are_calls) ∙ length-map r.answered (λ (a : record_of.Answered). a.call) ∙ sym (length-map r.answered (λ (a : record_of.Answered). a.report)) ∙ ap length r.are_reports
+      sym (ap length r.are_calls) ∙ length-map r.answered (λ (a : record_of.Answered). a.call)
+      ∙ sym (length-map r.answered (λ (a : record_of.Answered). a.report)) ∙ ap length r.are_reports
 
   worker_none : (d : record_of.Done) → d.role ≡ record_of.Worker n → record_of.IsRecord P codes d → d.reports ≡ []
   worker_none d e h = let r : record_of.WorkerRecord P n d = subst (λ (x : record_of.Role). record_of.RoleRecord P codes x d) e h in r.no_reports
 
-  workers_none : (w : ℕ) (ended : List record_of.Done) → map role_in ended ≡ replicate w (record_of.Worker n) → All (record_of.IsRecord P codes) ended → map reports_in ended ≡ replicate w []
+  workers_none : (w : ℕ) (ended : List record_of.Done) → map role_in ended ≡ replicate w (record_of.Worker n) → All (record_of.IsRecord P codes) ended →
+      map reports_in ended ≡ replicate w []
   unfolding head_or tail_of
   workers_none zero [] e h = refl
   workers_none zero (d ∷ ds) e h = let l : suc (length (map role_in ds)) ≡ 0 = ap length e in absurd (omega (arith, l))
@@ -164,7 +171,8 @@ module _ (P : Program) (codes : Codes) (floor : List Look) (n : ℕ) where
       → (piles : List (List Report)) × (map reports_in ended ≡ piles ++ replicate w []) × AllZip AsLong gs piles
   unfolding head_or tail_of
   reports_are [] w ended e h = ([], workers_none w ended e h, tt)
-  reports_are (g ∷ gs) w [] e h = let l : 0 ≡ suc (length (map (λ (cs : List Begun). record_of.Caller cs floor) gs ++ replicate w (record_of.Worker n))) = ap length e in absurd (omega (arith, l))
+  reports_are (g ∷ gs) w [] e h = let l : 0
+      ≡ suc (length (map (λ (cs : List Begun). record_of.Caller cs floor) gs ++ replicate w (record_of.Worker n))) = ap length e in absurd (omega (arith, l))
   reports_are (g ∷ gs) w (d ∷ ds) e h =
       let q = reports_are gs w ds (ap tail_of e) (All-tail (record_of.IsRecord P codes) d ds h) in
       (d.reports ∷ q.0, ap (λ l. d.reports ∷ l) q.1, (caller_long g d (ap (head_or d.role) e) (All-head (record_of.IsRecord P codes) d ds h), q.2))
@@ -176,7 +184,8 @@ zip_length R (x ∷ xs) [] h = absurd h
 zip_length R (x ∷ xs) (y ∷ ys) h = ap suc (zip_length R xs ys h.1)
 
 -- what was written back through a slice of a whole list
-pub written_back : {A B : Type 0} (R S : A → B → Type 0) (roles : List A) (old new : List B) (len : ℕ) → len ≡ length old → AllZip R roles old → AllZip S roles new → take len (new ++ drop (length new) old) ≡ new
+pub written_back : {A B : Type 0} (R S : A → B → Type 0) (roles : List A) (old new : List B) (len : ℕ) → len ≡ length old → AllZip R roles old →
+    AllZip S roles new → take len (new ++ drop (length new) old) ≡ new
 written_back R S roles old new len e h k =
     let a = zip_length R roles old h in
     let b = zip_length S roles new k in
@@ -201,7 +210,8 @@ alone_fit (x ∷ xs) (y ∷ ys) e = (refl, alone_fit xs ys (omega (arith, e)))
 
 -- ---- the clauses
 
-module _ (input : Input) (callers workers : ℕ) (warm : List WorkNote) (answers : Answers) (s : Store) (some : 1 ≤ callers) (h : RolesRan input callers workers warm answers s) where
+module _ (input : Input) (callers workers : ℕ) (warm : List WorkNote) (answers : Answers) (s : Store) (some : 1 ≤ callers)
+    (h : RolesRan input callers workers warm answers s) where
   abbrev pub P : Program
   P = input.checked
 
@@ -220,7 +230,8 @@ module _ (input : Input) (callers workers : ℕ) (warm : List WorkNote) (answers
   pub piles : (piles : List (List Report)) × (map reports_in h.joined.ended ≡ piles ++ replicate workers []) × AllZip AsLong dealt_calls piles
   unfolding roles_of
   piles = reports_are P codes (published_by warm) (length dealt_calls) dealt_calls workers h.joined.ended their_roles
-      (records_known P 1048576 input.script.setups warm h.joined.ended (view_of s.code_seat) (counts.reads_of s.profile_seat) (counts.joined_of s.profile_seat) h.store.code.reliable h.joined.joined)
+      (records_known P 1048576 input.script.setups warm h.joined.ended (view_of s.code_seat) (counts.reads_of s.profile_seat)
+      (counts.joined_of s.profile_seat) h.store.code.reliable h.joined.joined)
 
   pub so_many : length piles.0 ≡ callers
   so_many = sym (zip_length AsLong dealt_calls piles.0 piles.2) ∙ length_dealt callers (alone_each calls)
@@ -236,7 +247,8 @@ module _ (input : Input) (callers workers : ℕ) (warm : List WorkNote) (answers
   pub reports_of_piles : (reports : List Report) × ArePiles reports piles.0 × (length reports ≡ length input.script.calls)
   reports_of_piles = by_number callers some so_many (subst (λ gs. AllZip AsLong gs piles.0) (dealt_alone callers calls) piles.2)
     where
-      by_number : (c : ℕ) → 1 ≤ c → length piles.0 ≡ c → AllZip AsLong (shares c calls) piles.0 → (reports : List Report) × ArePiles reports piles.0 × (length reports ≡ length input.script.calls)
+      by_number : (c : ℕ) → 1 ≤ c → length piles.0 ≡ c → AllZip AsLong (shares c calls) piles.0 → (reports : List Report) × ArePiles reports piles.0
+          × (length reports ≡ length input.script.calls)
       by_number zero le e z = absurd (omega (arith, le))
       by_number (suc n) le e z = let q = piled n calls piles.0 z in (q.0, from_shares n q.0 piles.0 e q.1, q.2 ∙ length-map input.script.calls begun)
 
@@ -245,13 +257,17 @@ module _ (input : Input) (callers workers : ℕ) (warm : List WorkNote) (answers
   run_ends reports are many =
       let dealt_reports = dealt callers (alone_each reports) in
       let same : dealt_reports ≡ piles.0 = ap (λ n. dealt n (alone_each reports)) (sym so_many) ∙ are.are in
-      let whole : IsWholeStore (length dealt_calls + workers) 1048576 P s = subst (λ n. IsWholeStore (n + workers) 1048576 P s) (sym (length_dealt callers (alone_each calls))) h.store in
+      let whole : IsWholeStore (length dealt_calls + workers) 1048576 P s = subst (λ n. IsWholeStore (n + workers) 1048576 P s)
+      (sym (length_dealt callers (alone_each calls))) h.store in
       let stand : RolesStand P 1048576 workers input.script.setups dealt_calls dealt_reports answers.work s =
       subst (λ (w : List WorkNote). RolesStand P 1048576 workers input.script.setups dealt_calls dealt_reports w s) (sym h.joined.are_notes)
-      (roles_stand P 1048576 workers input.script.setups dealt_calls dealt_reports warm h.joined.ended s whole their_roles (piles.1 ∙ ap (λ l. l ++ replicate workers []) (sym same)) h.joined.joined) in
+      (roles_stand P 1048576 workers input.script.setups dealt_calls dealt_reports warm h.joined.ended s whole their_roles
+      (piles.1 ∙ ap (λ l. l ++ replicate workers []) (sym same)) h.joined.joined) in
       let fit = alone_fit calls reports (length-map input.script.calls begun ∙ sym many) in
-      let both = run_stands P 1048576 callers workers input.script.setups (alone_each calls) (alone_each reports) answers.work s (omega (arith, some)) fit stand in (
-        subst (λ (cs : List Begun). HasHeadline P cs reports) (flat_alone calls) (subst (λ (rs : List Report). HasHeadline P (flat (alone_each calls)) rs) (flat_alone reports) both.0),
+      let both = run_stands P 1048576 callers workers input.script.setups (alone_each calls) (alone_each reports) answers.work s
+      (omega (arith, some)) fit stand in (
+        subst (λ (cs : List Begun). HasHeadline P cs reports) (flat_alone calls)
+            (subst (λ (rs : List Report). HasHeadline P (flat (alone_each calls)) rs) (flat_alone reports) both.0),
         subst (λ (rs : List Report). RunStands P 1048576 callers workers input.script.setups (alone_each calls) rs answers.work s) (flat_alone reports) both.1,
       )
 
@@ -259,11 +275,14 @@ module _ (input : Input) (callers workers : ℕ) (warm : List WorkNote) (answers
   left_piles : (left : _) → left ≡ take callers answers.piles.items → map (λ pile. pile.items) left ≡ piles.0
   left_piles left e = ap (map (λ pile. pile.items)) e ∙ map_take (λ pile. pile.items) callers answers.piles.items ∙ callers_piles
 
-  pub gathers_here : (left : _) → left ≡ take callers answers.piles.items → (reports : List Report) × ArePiles reports (map (λ pile. pile.items) left) × (length reports ≡ length input.script.calls)
+  pub gathers_here : (left : _) → left ≡ take callers answers.piles.items → (reports : List Report) × ArePiles reports (map (λ pile. pile.items) left)
+      × (length reports ≡ length input.script.calls)
   gathers_here left e = (reports_of_piles.0, subst (ArePiles reports_of_piles.0) (sym (left_piles left e)) reports_of_piles.1, reports_of_piles.2)
 
-  pub ends_here : (left : _) → left ≡ take callers answers.piles.items → (reports : List Report) → ArePiles reports (map (λ pile. pile.items) left) → length reports ≡ length input.script.calls
-      → HasHeadline input.checked (map begun input.script.calls) reports × RunStands input.checked 1048576 callers workers input.script.setups (alone_each (map begun input.script.calls)) reports answers.work s
+  pub ends_here : (left : _) → left ≡ take callers answers.piles.items → (reports : List Report) → ArePiles reports (map (λ pile. pile.items) left) →
+      length reports ≡ length input.script.calls
+      → HasHeadline input.checked (map begun input.script.calls) reports
+      × RunStands input.checked 1048576 callers workers input.script.setups (alone_each (map begun input.script.calls)) reports answers.work s
   ends_here left e reports are many = run_ends reports (subst (ArePiles reports) (left_piles left e) are) many
 
 -- ---- from the seats that were dealt to those that were joined
@@ -276,14 +295,16 @@ module _ (v w : View) (e : but_for_splits w ≡ but_for_splits v) where
   next_is = ap (λ (x : View). x.next) e
 
   shared_learns : Learns v w
-  shared_learns = learns_more v w (ap (λ (x : View). x.live) e) (ap (λ (x : View). x.key) e) (let n = next_is in omega (arith, n)) (λ (x : Region) (has : Has v.regions x). subst (λ (rs : List Region). Has rs x) (sym regions_are) has)
+  shared_learns = learns_more v w (ap (λ (x : View). x.live) e) (ap (λ (x : View). x.key) e) (let n = next_is in omega (arith, n))
+      (λ (x : Region) (has : Has v.regions x). subst (λ (rs : List Region). Has rs x) (sym regions_are) has)
 
 no_items : {A : Type 0} (xs : List A) → length xs ≡ 0 → xs ≡ []
 no_items [] e = refl
 no_items (x ∷ xs) e = absurd (omega (arith, e))
 
 -- what roles share is the input's, over the tables of the store
-pub is_run : (input : Input) (s : Store) (given_to : Shared) → given_to.checked.now ≡ input.checked → given_to.calls.now ≡ input.script.calls → given_to.code.now ≡ s.code → given_to.profile.now ≡ s.profile
+pub is_run : (input : Input) (s : Store) (given_to : Shared) → given_to.checked.now ≡ input.checked → given_to.calls.now ≡ input.script.calls →
+    given_to.code.now ≡ s.code → given_to.profile.now ≡ s.profile
     → IsRunOver input s → IsRun given_to
 is_run input s given_to checked calls code profile h = record {
   program = ap program_of code ∙ h.program ∙ sym checked;
@@ -306,7 +327,8 @@ module _ (input : Input) (callers workers : ℕ) (warm : List WorkNote) (a b : S
 
   -- the roles are for seats that were split off
   pub are_for : AllZip (IsFor b.code b.profile u) (roles_in callers workers) slots
-  are_for = subst (λ (z : CodeTable × Profile). AllZip (IsFor z.0 z.1 u) (roles_in callers workers) slots) (λ i. (sym dealt_to.split.code_table i, sym dealt_to.split.profile_table i)) dealt_to.slots_are
+  are_for = subst (λ (z : CodeTable × Profile). AllZip (IsFor z.0 z.1 u) (roles_in callers workers) slots)
+      (λ i. (sym dealt_to.split.code_table i, sym dealt_to.split.profile_table i)) dealt_to.slots_are
 
   pub can_join : CanJoin b
   can_join =
@@ -332,12 +354,19 @@ module _ (input : Input) (callers workers : ℕ) (warm : List WorkNote) (a b : S
       let p = prepared.prepared in
       let zeros : FromZeros (counts.reads_of a.profile_seat) = prepared.store.profile.starts prepared.profile_sole in
       joined_none Q 1048576 input.script.setups warm v (counts.reads_of b.profile_seat) (counts.joined_of b.profile_seat)
-      (record { live = ap (λ (x : View). x.live) e ∙ over.live; program = ap (λ (x : View). x.key.program) e ∙ over.program; one_slot = ap (λ (x : View). x.key.slots) e ∙ over.one_slot; sized = ap (λ (x : View). x.key.size) e ∙ over.sized })
+      (record {
+        live = ap (λ (x : View). x.live) e ∙ over.live;
+        program = ap (λ (x : View). x.key.program) e
+            ∙ over.program;
+        one_slot = ap (λ (x : View). x.key.slots) e ∙ over.one_slot;
+        sized = ap (λ (x : View). x.key.size) e ∙ over.sized;
+      })
       (record {
         are_warm = p.are_warm;
         notes = notes_later Q 0 u v warm (shared_learns u v e) p.notes (ap (λ (x : View). x.taken) e);
         lookups = ap (λ (x : View). x.lookups) e ∙ p.lookups;
-        in_parts = subst (λ (rs : List Read). ReadsInParts Q no_codes (map OfSetup input.script.setups ++ map OfWarm warm) rs) (sym dealt_to.split.reads) p.in_parts;
+        in_parts = subst (λ (rs : List Read). ReadsInParts Q no_codes (map OfSetup input.script.setups ++ map OfWarm warm) rs)
+            (sym dealt_to.split.reads) p.in_parts;
       })
       (subst FromZeros (sym dealt_to.split.reads) zeros)
       (ap (λ (x : View). x.joined) e ∙ no_items u.joined prepared.store.code_seat.all_joined)
@@ -350,13 +379,18 @@ module _ (input : Input) (callers workers : ℕ) (warm : List WorkNote) (a b : S
       let floor = published_by warm in
       let program : program_of b.code ≡ Q = ap program_of dealt_to.split.code_table ∙ prepared.store.program in
       let size : (key_of b.code).size ≡ 1048576 = ap (λ t. (key_of t).size) dealt_to.split.code_table ∙ prepared.store.sized in
-      let before : Joined (program_of b.code) (key_of b.code).size input.script.setups warm [] v (counts.reads_of b.profile_seat) (counts.joined_of b.profile_seat) =
-      subst (λ (z : Program × ℕ). Joined z.0 z.1 input.script.setups warm [] v (counts.reads_of b.profile_seat) (counts.joined_of b.profile_seat)) (λ i. (sym program i, sym size i)) joined_so_far in
-      let after = joins.joins input.script.calls u (roles_in callers workers) input.script.setups floor ends (published_seen Q u warm prepared.prepared.notes) before in
+      let before : Joined (program_of b.code) (key_of b.code).size input.script.setups warm [] v (counts.reads_of b.profile_seat)
+      (counts.joined_of b.profile_seat) =
+      subst (λ (z : Program × ℕ). Joined z.0 z.1 input.script.setups warm [] v (counts.reads_of b.profile_seat) (counts.joined_of b.profile_seat))
+      (λ i. (sym program i, sym size i)) joined_so_far in
+      let after = joins.joins input.script.calls u (roles_in callers workers) input.script.setups floor ends (published_seen Q u warm prepared.prepared.notes)
+      before in
       let all : HasJoined Q 1048576 input.script.setups warm (map (role_of input.script.calls floor) (roles_in callers workers)) answers c =
-      subst (λ (z : Program × ℕ). HasJoined z.0 z.1 input.script.setups warm (map (role_of input.script.calls floor) (roles_in callers workers)) answers c) (λ i. (program i, size i)) after in
+      subst (λ (z : Program × ℕ). HasJoined z.0 z.1 input.script.setups warm (map (role_of input.script.calls floor) (roles_in callers workers)) answers c)
+      (λ i. (program i, size i)) after in
       let length_is : length all.ended ≡ callers + workers =
-      sym (length-map all.ended (λ (d : record_of.Done). d.role)) ∙ ap length all.are_roles ∙ length-map (roles_in callers workers) (role_of input.script.calls floor) ∙ length_roles callers callers workers in
+      sym (length-map all.ended (λ (d : record_of.Done). d.role)) ∙ ap length all.are_roles
+      ∙ length-map (roles_in callers workers) (role_of input.script.calls floor) ∙ length_roles callers callers workers in
       let splits : length (roles_in callers workers) ≡ callers + workers = length_roles callers callers workers in
       record {
         store = record {
@@ -368,12 +402,14 @@ module _ (input : Input) (callers workers : ℕ) (warm : List WorkNote) (a b : S
           sized = ap (λ t. (key_of t).size) joins.same.code_table ∙ size;
           code_seat = record {
             first = joins.same.code.first ∙ dealt_to.split.can.code_first;
-            splits = let x = joins.same.code.splits in let y = dealt_to.split.code_splits in let z = prepared.store.code_seat.splits in omega (arith, x, y, z, splits);
+            splits = let x = joins.same.code.splits in let y = dealt_to.split.code_splits in let z = prepared.store.code_seat.splits in omega
+                (arith, x, y, z, splits);
             all_joined = ap length all.joined.looks_joined ∙ length-map all.ended _ ∙ length_is;
           };
           profile_seat = record {
             first = joins.same.profile_first ∙ dealt_to.split.can.profile_first;
-            splits = let x = joins.same.profile_splits in let y = dealt_to.split.profile_splits in let z = prepared.store.profile_seat.splits in omega (arith, x, y, z, splits);
+            splits = let x = joins.same.profile_splits in let y = dealt_to.split.profile_splits in let z = prepared.store.profile_seat.splits in omega
+                (arith, x, y, z, splits);
             all_joined = ap length all.joined.reads_joined ∙ length-map all.ended _ ∙ length_is;
           };
         };

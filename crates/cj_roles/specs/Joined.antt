@@ -55,7 +55,8 @@ pub record JoinsSlot (slot : Slot) (a : Store) (before : Answers) (b : Store) (a
   pub work : after.work ≡ before.work ++ done.work
 
 -- the seats of these roles are joined, and the answers are theirs
-pub record HasJoined (P : Program) (size : ℕ) (setups : List Setup) (warm : List WorkNote) (roles : List record_of.Role) (answers : Answers) (s : Store) : Type 0 where
+pub record HasJoined (P : Program) (size : ℕ) (setups : List Setup) (warm : List WorkNote) (roles : List record_of.Role) (answers : Answers)
+    (s : Store) : Type 0 where
   pub ended : List record_of.Done
   pub are_roles : map (λ (d : record_of.Done). d.role) ended ≡ roles
   pub are_reports : map (λ (d : record_of.Done). d.reports) ended ≡ map (λ pile. pile.items) answers.piles.items

@@ -12,4 +12,5 @@ use Rattle.cj_roles.specs.Joined.{HasJoined}
 -- the seats of all its roles are joined into those of the store, and the answers are theirs
 pub record RolesRan (input : Input) (callers workers : ℕ) (warm : List WorkNote) (answers : Answers) (s : Store) : Type 0 where
   pub store : IsWholeStore (callers + workers) 1048576 input.checked s
-  pub joined : HasJoined input.checked 1048576 input.script.setups warm (map (role_of input.script.calls (published_by warm)) (roles_in callers workers)) answers s
+  pub joined : HasJoined input.checked 1048576 input.script.setups warm (map (role_of input.script.calls (published_by warm)) (roles_in callers workers))
+      answers s

@@ -30,7 +30,8 @@ HasHeadlines =
     IsWellFormed P → SoundCodes P codes → Takes P.functions call.function (length call.args) →
     version_report P codes looks call ≡ Some r → ReportStands P call r × IsWhole P call r
 
-read_off_all : (P : Program) (codes : Codes) (runs : List code.Run) (reports : List Report) → AllZip (IsToldOf P codes) runs reports → AllZip IsReadOff (map run_of runs) reports
+read_off_all : (P : Program) (codes : Codes) (runs : List code.Run) (reports : List Report) → AllZip (IsToldOf P codes) runs reports →
+    AllZip IsReadOff (map run_of runs) reports
 read_off_all P codes [] [] h = tt
 read_off_all P codes [] (r ∷ reports) h = absurd h
 read_off_all P codes (run ∷ runs) [] h = absurd h
@@ -47,7 +48,8 @@ module _ (law : HasHeadlines) (P : Program) (codes : Codes) (formed : IsWellForm
         whole = subst (λ (c : Begun). IsWhole P c r) same stands.1;
       }
 
-  told_reports : (runs : List code.Run) (reports : List Report) (calls : List ScriptCall) → map (λ run. run.call) (map run_of runs) ≡ map begun calls → AllZip (IsToldOf P codes) runs reports → AllZip (IsReportOf P codes) calls reports
+  told_reports : (runs : List code.Run) (reports : List Report) (calls : List ScriptCall) → map (λ run. run.call) (map run_of runs) ≡ map begun calls →
+      AllZip (IsToldOf P codes) runs reports → AllZip (IsReportOf P codes) calls reports
   unfolding run_of
   told_reports [] [] [] same h = tt
   told_reports [] [] (call ∷ calls) same h = absurd cc
@@ -59,7 +61,10 @@ module _ (law : HasHeadlines) (P : Program) (codes : Codes) (formed : IsWellForm
       let rest : map (λ (run : Run). run.call) (map run_of runs) ≡ map begun calls = cc in
       (told_report call run r first h.0, told_reports runs reports calls rest h.1)
 
-pub answers : HasHeadlines → (P : Program) (words : ℕ) (events : List Event) (last : World) (w : whole.World) (played : Played) → IsWellFormed P → w.cache.checked.now ≡ P → AllHappen P words events (first_world P) last → world_of w ≡ finished P (length last.runs) last → Orderly w → AllZip (IsToldOf P (codes_in (made_in w.cache))) w.runs.items played.reports → played.compiled ≡ w.compiled → played.skips ≡ w.skips → IsPlay P words events played
+pub answers : HasHeadlines → (P : Program) (words : ℕ) (events : List Event) (last : World) (w : whole.World) (played : Played) → IsWellFormed P →
+    w.cache.checked.now ≡ P → AllHappen P words events (first_world P) last → world_of w ≡ finished P (length last.runs) last → Orderly w →
+    AllZip (IsToldOf P (codes_in (made_in w.cache))) w.runs.items played.reports → played.compiled ≡ w.compiled → played.skips ≡ w.skips →
+    IsPlay P words events played
 unfolding world_of made_in
 answers law P words events last w played formed checked happened ended orderly told compiled skips =
     let codes : Codes = codes_in (made_in w.cache) in

@@ -23,7 +23,8 @@ over_rests P codes current run end s count is =
     turns_rest P codes current 0 count run (omega arith) (λ some. is_over P codes current run end s is)
 
 -- turns of the engine, over codes and a program that are these
-module _ (P Q : Program) (codes later : Codes) (program : Q ≡ P) (same : later ≡ codes) (s t : State) (now : List Look) (count m limit : ℕ) (few : m ≡ min count (limit - s.turns)) (within : s.turns ≤ limit) where
+module _ (P Q : Program) (codes later : Codes) (program : Q ≡ P) (same : later ≡ codes) (s t : State) (now : List Look) (count m limit : ℕ)
+    (few : m ≡ min count (limit - s.turns)) (within : s.turns ≤ limit) where
   known : (answer : Turned) → turns_from Q later now (Continues s) m ≡ progress_of answer t → turns_from P codes now (Continues s) m ≡ progress_of answer t
   known answer made =
       subst (λ (R : Program). turns_from R codes now (Continues s) m ≡ progress_of answer t) program
@@ -57,7 +58,8 @@ module _ (P Q : Program) (codes later : Codes) (program : Q ≡ P) (same : later
       let made_m : turns P codes current m run ≡ with (progress_of answer t) =
       turns_way P codes current run s now used starts m (omega arith) whole (progress_of answer t) (known answer made) in
       let rested = turns_rest P codes current m count run (omega arith)
-      (λ fewer. subst (λ (r : Run). one_turn P codes current r ≡ r) (sym made_m) (resting current (with (progress_of answer t)) answer same_limit made fewer refl)) in
+      (λ fewer. subst (λ (r : Run). one_turn P codes current r ≡ r) (sym made_m)
+      (resting current (with (progress_of answer t)) answer same_limit made fewer refl)) in
       ap with (sym left) ∙ sym made_m ∙ sym rested
 
   pub gone_used : (current : List ℕ) (run : Run) (trail now_trail : List Look) (answer : Turned) → run.call.limit ≡ limit

@@ -12,7 +12,8 @@ use Rattle.cj_draft.specs.declared.code.Place.{Place}
 use Rattle.cj_draft.specs.Effects.{VersionEffect, Plain, Guarded, version_effect}
 use Rattle.cj_calls.specs.declared.report.Look.{Look}
 use Rattle.cj_activations.specs.Activations.{VersionFrame, Active, InBase, InVersion, Paused, BaseWaits, VersionWaits}
-use Rattle.cj_machine.specs.Versions.{State, Codes, Progress, Continues, Finishes, Undefined, place_in, entered, counted, enters, resumed_by, resumed_at, returns_to, turn_by, passed, rebuilt, version_turn_by, turn_in_base, turn_in_version, turn_of, version_turn}
+use Rattle.cj_machine.specs.Versions.{State, Codes, Progress, Continues, Finishes, Undefined, place_in, entered, counted, enters, resumed_by, resumed_at}
+use Rattle.cj_machine.specs.Versions.{returns_to, turn_by, passed, rebuilt, version_turn_by, turn_in_base, turn_in_version, turn_of, version_turn}
 use Rattle.cj_machine.specs.Marks.{Mark, effect_marks, base_marks, version_marks, place_marks, marks_in, turn_marks}
 use Rattle.cj_world.specs.Worlds.{look_at, looks_of}
 

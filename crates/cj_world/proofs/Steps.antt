@@ -24,13 +24,16 @@ use Rattle.cj_world.specs.Caches.{made_of, made_in, Stays}
 use Rattle.cj_world.specs.Running.{progress_by, end_told, IsAt, Fits}
 
 -- a run and the trail gain the same looks
-pub gained_looks : (looks now_looks trail now_trail new : List Look) → Gains looks now_looks trail now_trail → now_trail ≡ trail ++ new → now_looks ≡ looks ++ new
+pub gained_looks : (looks now_looks trail now_trail new : List Look) → Gains looks now_looks trail now_trail → now_trail ≡ trail ++ new →
+    now_looks ≡ looks ++ new
 gained_looks looks now_looks trail now_trail new g told =
     g.looks_more ∙ ap (λ more. looks ++ more) (append_cancel_left trail g.more new (sym g.trail_more ∙ told))
 
 -- ---- a start
 
-pub begun_same : (P : Program) (codes : Codes) (current : List ℕ) (call : Begun) (looks : List Look) (s : State) → looks ≡ looks_of current (start_marks call) → version_start P codes (slice_get looks 0) call ≡ Continues s → record { call = call; looks = looks; progress = Continues s } ≡ begun_run P codes current call
+pub begun_same : (P : Program) (codes : Codes) (current : List ℕ) (call : Begun) (looks : List Look) (s : State) →
+    looks ≡ looks_of current (start_marks call) → version_start P codes (slice_get looks 0) call ≡ Continues s →
+    record { call = call; looks = looks; progress = Continues s } ≡ begun_run P codes current call
 unfolding begun_run
 begun_same P codes current call looks s same made =
     let with : Progress → Run = λ p. record { call = call; looks = looks; progress = p } in
@@ -40,7 +43,9 @@ begun_same P codes current call looks s same made =
 -- ---- a turn
 
 module _ (P : Program) (codes : Codes) (current : List ℕ) (run : Run) where
-  pub turned_same : (s : State) (looks : List Look) (progress : Progress) → looks ≡ run.looks ++ looks_of current (turn_marks P codes s) → version_turn P codes (slice_get looks s.entries) s ≡ progress → record { call = run.call; looks = looks; progress = progress } ≡ turned P codes current run s
+  pub turned_same : (s : State) (looks : List Look) (progress : Progress) → looks ≡ run.looks ++ looks_of current (turn_marks P codes s) →
+      version_turn P codes (slice_get looks s.entries) s ≡ progress → record { call = run.call; looks = looks; progress = progress }
+      ≡ turned P codes current run s
   unfolding turned
   turned_same s looks progress same made =
       let with : Progress → Run = λ p. record { call = run.call; looks = looks; progress = p } in
@@ -73,7 +78,8 @@ unfolding progress_by end_told
 told_progress Running s = refl
 told_progress (Ended end) s = refl
 
-pub told_at : (P : Program) (codes : Codes) (looks : List Look) (call : Begun) (answer : Turned) (s : State) → RunGoes P codes looks call answer s → IsAt P codes looks call (end_told answer) s
+pub told_at : (P : Program) (codes : Codes) (looks : List Look) (call : Begun) (answer : Turned) (s : State) → RunGoes P codes looks call answer s →
+    IsAt P codes looks call (end_told answer) s
 unfolding end_told
 told_at P codes looks call Running s h = h
 told_at P codes looks call (Ended end) s h = h.report
@@ -85,7 +91,8 @@ told_on (Ended end) o same none = absurd cc
 
 -- a turn of the engine, over codes and a program that are these
 module _ (P Q : Program) (codes later : Codes) (program : Q ≡ P) (same : later ≡ codes) where
-  pub turn_at : (looks : List Look) (call : Begun) (s : State) (answer : Turned) (o : Option End) → RunGoes Q later looks call answer s → o ≡ end_told answer → IsAt P codes looks call o s
+  pub turn_at : (looks : List Look) (call : Begun) (s : State) (answer : Turned) (o : Option End) → RunGoes Q later looks call answer s → o ≡ end_told answer →
+      IsAt P codes looks call o s
   turn_at looks call s answer o goes ended =
       let goes' = subst (λ (R : Program). RunGoes R codes looks call answer s) program (subst (λ (c : Codes). RunGoes Q c looks call answer s) same goes) in
       subst (λ (e : Option End). IsAt P codes looks call e s) (sym ended) (told_at P codes looks call answer s goes')
@@ -96,12 +103,14 @@ pub same_codes : (cache after : Cache) → Stays cache after → codes_in (made_
 unfolding made_in
 same_codes cache after stays = ap (λ (es : List (ℕ × Body)). codes_in (map made_of es)) stays.versions
 
-pub fits_after : (cache after : Cache) (run : code.Run) → Stays cache after → Fits cache.checked.now (codes_in (made_in cache)) run → Fits after.checked.now (codes_in (made_in after)) run
+pub fits_after : (cache after : Cache) (run : code.Run) → Stays cache after → Fits cache.checked.now (codes_in (made_in cache)) run →
+    Fits after.checked.now (codes_in (made_in after)) run
 fits_after cache after run stays fits =
     subst (λ (P : Program). Fits P (codes_in (made_in after)) run) (sym stays.checked)
     (subst (λ (codes : Codes). Fits cache.checked.now codes run) (sym (same_codes cache after stays)) fits)
 
-pub fits_before : (cache after : Cache) (run : code.Run) → Stays cache after → Fits after.checked.now (codes_in (made_in after)) run → Fits cache.checked.now (codes_in (made_in cache)) run
+pub fits_before : (cache after : Cache) (run : code.Run) → Stays cache after → Fits after.checked.now (codes_in (made_in after)) run →
+    Fits cache.checked.now (codes_in (made_in cache)) run
 fits_before cache after run stays fits =
     subst (λ (P : Program). Fits P (codes_in (made_in cache)) run) stays.checked
     (subst (λ (codes : Codes). Fits after.checked.now codes run) (same_codes cache after stays) fits)

@@ -1,5 +1,6 @@
 -- No look finds an older version than an earlier one did.
-use Rattle.std.proofs.Common.{◌≡◌, refl, sym, ap, subst, arith, append-nil, append_assoc, ℕ, zero, suc, ◌+◌, ◌-◌, ◌<◌, ◌≤◌, Bool, true, false, List, [], ◌∷◌, ◌++◌, length, replicate, get_or, set, Option, Some, None, if◌then◌else◌}
+use Rattle.std.proofs.Common.{◌≡◌, refl, sym, ap, subst, arith, append-nil, append_assoc, ℕ, zero, suc, ◌+◌, ◌-◌, ◌<◌, ◌≤◌, Bool, true, false, List, [], ◌∷◌}
+use Rattle.std.proofs.Common.{◌++◌, length, replicate, get_or, set, Option, Some, None, if◌then◌else◌}
 use Rattle.std.specs.Prelude.{All, nat_lt, slice_get, slice_set}
 use Rattle.std.proofs.lemmas.List.Elements.{All-push, All-weaker, All-nil}
 use Rattle.std.proofs.lemmas.List.Quantifiers.{all_pairs_push}
@@ -14,7 +15,8 @@ use Rattle.cj_machine.specs.Marks.{start_marks}
 use Rattle.cj_events.specs.declared.events.Event.{Event}
 use Rattle.cj_events.specs.declared.events.Event.TheVariants.{Begin, Step, Compile}
 use Rattle.cj_world.specs.declared.played.Compiled.TheVariants.{Published, TooLarge, Full}
-use Rattle.cj_world.specs.Worlds.{Run, World, codes_in, offset_of, looks_of, begun_run, turns, first_world, begins, became, moved, steps, limit_of, finishes, finished, claimed, words_in, published, compiles}
+use Rattle.cj_world.specs.Worlds.{Run, World, codes_in, offset_of, looks_of, begun_run, turns, first_world, begins, became, moved, steps, limit_of, finishes}
+use Rattle.cj_world.specs.Worlds.{finished, claimed, words_in, published, compiles}
 use Rattle.cj_world.specs.Plays.{Happens, AllHappen, PlaysTo}
 use Rattle.cj_world.specs.Played.{NeverFall}
 use Rattle.cj_world.proofs.Gaining.{AreCurrent, looks_are_current, turns_gain, dropped}
@@ -37,7 +39,8 @@ follows_current current a b below is = λ same.
     omega arith
 
 -- more looks at current versions
-more_never_fall : (current : List ℕ) (looks more : List Look) → NeverFall looks → AreBelow current looks → AreCurrent current more → NeverFall (looks ++ more) × AreBelow current (looks ++ more)
+more_never_fall : (current : List ℕ) (looks more : List Look) → NeverFall looks → AreBelow current looks → AreCurrent current more →
+    NeverFall (looks ++ more) × AreBelow current (looks ++ more)
 more_never_fall current looks [] falls below fresh =
     (subst NeverFall (sym (append-nil looks)) falls, subst (λ (ls : List Look). AreBelow current ls) (sym (append-nil looks)) below)
 more_never_fall current looks (look ∷ more) falls below fresh =
@@ -63,7 +66,8 @@ first_ordered P = record {
 }
 
 -- more looks at current versions
-with_looks : (w v : World) (more : List Look) → v.trail ≡ w.trail ++ more → v.current ≡ w.current → v.next ≡ w.next → AreCurrent w.current more → Ordered w → Ordered v
+with_looks : (w v : World) (more : List Look) → v.trail ≡ w.trail ++ more → v.current ≡ w.current → v.next ≡ w.next → AreCurrent w.current more → Ordered w →
+    Ordered v
 with_looks w v more trail current next fresh o = record {
   falls = subst NeverFall (sym trail) (more_never_fall w.current w.trail more o.falls o.below fresh).0;
   below =
@@ -135,7 +139,8 @@ published_ordered code w o =
       claimed = λ f. let low = stays_low w.current code.function.0 w.next o.claimed f in omega arith;
     }
 
-answered_ordered : (code : Code) (w : World) (words : ℕ) (large full : Bool) (len : ℕ) → Ordered w → Ordered (published code (if large then TooLarge (capped len) else if full then Full w.next len else Published w.next) w)
+answered_ordered : (code : Code) (w : World) (words : ℕ) (large full : Bool) (len : ℕ) → Ordered w →
+    Ordered (published code (if large then TooLarge (capped len) else if full then Full w.next len else Published w.next) w)
 unfolding published
 answered_ordered code w words true full len o = o
 answered_ordered code w words false true len o = o

@@ -57,12 +57,14 @@ same_answer w one other h k =
     let skips : one.skips ≡ other.skips = h.skips ∙ sym k.skips in
     λ i. record { reports = reports i; compiled = compiled i; skips = skips i }
 
-pub one_world : OnePipeline → (P : Program) (words : ℕ) (events : List Event) (one other : World) → PlaysTo P words events one → PlaysTo P words events other → one ≡ other
+pub one_world : OnePipeline → (P : Program) (words : ℕ) (events : List Event) (one other : World) → PlaysTo P words events one → PlaysTo P words events other →
+    one ≡ other
 one_world law P words events one other h k =
     let same : h.last ≡ k.last = all_one law P words events (first_world P) h.last k.last h.happened k.happened in
     h.ended ∙ ap (λ (w : World). finished P (length w.runs) w) same ∙ sym k.ended
 
-pub one_answer : OnePipeline → (P : Program) (words : ℕ) (events : List Event) (one other : Played) → IsPlay P words events one → IsPlay P words events other → one ≡ other
+pub one_answer : OnePipeline → (P : Program) (words : ℕ) (events : List Event) (one other : Played) → IsPlay P words events one → IsPlay P words events other →
+    one ≡ other
 one_answer law P words events one other h k =
     let same : h.world ≡ k.world = one_world law P words events h.world k.world h.plays k.plays in
     same_answer k.world one other (subst (λ (w : World). Tells w one) same h.tells) k.tells

@@ -3,4 +3,5 @@ use Rattle.cj_driver.proofs.jobs.perform_bench.Goals as goal
 
 pub returns : goal.returns
 returns c =
-    summary_owes c.args.number c.in_ok-input.input c.in_ok-made.made c.in_ok-text.text.items c.in_ok-input.ensures.input c.in_ok-made.ensures c.in_ok-text.ensures
+    summary_owes c.args.number c.in_ok-input.input c.in_ok-made.made c.in_ok-text.text.items c.in_ok-input.ensures.input c.in_ok-made.ensures
+    c.in_ok-text.ensures

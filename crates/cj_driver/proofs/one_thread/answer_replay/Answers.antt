@@ -10,7 +10,9 @@ returns-in-Ok g c =
     ReadsReplay
     (OwesPlay c.args.stats)
     (c.in-Ok.checked, c.in-Ok.events)
-    (outside (g.S.Source.left c.args.source.now) (g.S.Source.left c.read_replay.new.source) (g.K.Sink.written c.args.sink.now) (g.K.Sink.written c.finish_replay.new.sink) (g.S.Source.faults c.args.source.now) (g.S.Source.faults c.read_replay.new.source) (g.K.Sink.faults c.args.sink.now) (g.K.Sink.faults c.finish_replay.new.sink))
+    (outside (g.S.Source.left c.args.source.now) (g.S.Source.left c.read_replay.new.source) (g.K.Sink.written c.args.sink.now)
+    (g.K.Sink.written c.finish_replay.new.sink) (g.S.Source.faults c.args.source.now) (g.S.Source.faults c.read_replay.new.source)
+    (g.K.Sink.faults c.args.sink.now) (g.K.Sink.faults c.finish_replay.new.sink))
     c.finish_replay.result
     c.in-Ok.ensures.read
     c.in-Ok.ensures.calm

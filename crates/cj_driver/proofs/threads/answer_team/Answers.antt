@@ -10,7 +10,9 @@ returns-in-Ok g c =
     Reads
     (OwesTeam c.args.team)
     c.in-Ok.input
-    (outside (g.S.Source.left c.args.source.now) (g.S.Source.left c.read_input.new.source) (g.K.Sink.written c.args.sink.now) (g.K.Sink.written c.finish_team.new.sink) (g.S.Source.faults c.args.source.now) (g.S.Source.faults c.read_input.new.source) (g.K.Sink.faults c.args.sink.now) (g.K.Sink.faults c.finish_team.new.sink))
+    (outside (g.S.Source.left c.args.source.now) (g.S.Source.left c.read_input.new.source) (g.K.Sink.written c.args.sink.now)
+    (g.K.Sink.written c.finish_team.new.sink) (g.S.Source.faults c.args.source.now) (g.S.Source.faults c.read_input.new.source)
+    (g.K.Sink.faults c.args.sink.now) (g.K.Sink.faults c.finish_team.new.sink))
     c.finish_team.result
     c.in-Ok.ensures.read
     c.in-Ok.ensures.calm

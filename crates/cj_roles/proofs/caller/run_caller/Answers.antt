@@ -14,7 +14,8 @@ pub new-session-requires-clause-known : goal.new-session-requires-clause-known
 new-session-requires-clause-known g c = c.new-versions.ensures.known c.args.shared.now.checked.now (view_of c.args.code_seat)
 
 pub run_calls-answer-requires-clause-calls : goal.run_calls-answer-requires-clause-calls
-run_calls-answer-requires-clause-calls g c = subst (λ (P : Program). All (FitsCall P.functions) c.args.shared.now.calls.now) (sym c.new-session.ensures.tables.0) c.requires.run.calls
+run_calls-answer-requires-clause-calls g c = subst (λ (P : Program). All (FitsCall P.functions) c.args.shared.now.calls.now)
+    (sym c.new-session.ensures.tables.0) c.requires.run.calls
 
 pub returns : goal.returns
 returns g c =
@@ -22,6 +23,7 @@ returns g c =
     let reads = c.finish_caller.ensures.reads in
     caller_done c.args.shared.now c.requires.run c.args.code_seat c.args.profile_seat c.requires.seats _ c.new-session.result c.run_calls-answer.new.session
     c.new-session.ensures.tables c.new-session.ensures.seats c.in_ok-reports.ensures.ready c.in_ok-reports.ensures.stays
-    c.finish_caller.new.seat c.finish_caller.ensures.own (subst (λ (x : ProfileSeat). counts.IsSame x c.finish_caller.new.seat) seats.1 c.finish_caller.ensures.same)
+    c.finish_caller.new.seat c.finish_caller.ensures.own
+    (subst (λ (x : ProfileSeat). counts.IsSame x c.finish_caller.new.seat) seats.1 c.finish_caller.ensures.same)
     reads.0 (subst (λ (x : ProfileSeat). counts.Adds (add_one word.Finished reads.0 ∷ []) x c.finish_caller.new.seat) seats.1 reads.2)
     c.args.first c.args.callers seats.0 refl c.new-work.ensures c.in_ok-reports.ensures.ran

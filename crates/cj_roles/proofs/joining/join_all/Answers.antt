@@ -11,12 +11,14 @@ loop-slot-init c = joining_none c.args.warm c.args.store.now _ c.requires.store 
 
 pub loop-slot-preserved : goal.loop-slot-preserved
 loop-slot-preserved c =
-    joining_more c.args.warm c.args.store.now c.loop-slot.yielded c.in-Some.slot c.loop-slot.store c.join_slot.new.store c.loop-slot.answers c.join_slot.new.answers c.loop-slot.invariant c.in_ok-join_slot.ensures
+    joining_more c.args.warm c.args.store.now c.loop-slot.yielded c.in-Some.slot c.loop-slot.store c.join_slot.new.store c.loop-slot.answers
+    c.join_slot.new.answers c.loop-slot.invariant c.in_ok-join_slot.ensures
 
 pub returns : goal.returns
 returns c =
     let gives = c.into_iter-slot-iterator.ensures.into_iter_gives in
-    let end = YieldsList-end (YieldsList-from_vec {s = c.into_iter-slot-iterator.result} c.args.slots.items gives.0 (gives.1 ∙ c.args.slots.ok.0)) c.loop-slot.yielded c.loop-slot.slot-iterator c.loop-slot.yielded_by c.next.result c.next.new.self c.in-None.is c.next.ensures.steps in
+    let end = YieldsList-end (YieldsList-from_vec {s = c.into_iter-slot-iterator.result} c.args.slots.items gives.0 (gives.1 ∙ c.args.slots.ok.0))
+    c.loop-slot.yielded c.loop-slot.slot-iterator c.loop-slot.yielded_by c.next.result c.next.new.self c.in-None.is c.next.ensures.steps in
     let all : c.loop-slot.yielded ≡ c.args.slots.items = sym (each_itself c.loop-slot.yielded) ∙ end.0 in
     joins_all c.args.warm c.args.store.now c.args.slots.items c.loop-slot.store _ c.loop-slot.answers
     (subst (λ (slots : List Slot). IsJoining slots c.args.warm c.args.store.now c.loop-slot.answers c.loop-slot.store) all c.loop-slot.invariant)

@@ -10,13 +10,24 @@ use Rattle.cj_roles.proofs.Standing.{are_for, can_join, run_over, roles_ran, wri
 use Rattle.cj_roles.proofs.run.run_all.Goals as goal
 
 pub run_in_threads-requires-clause-store : goal.run_in_threads-requires-clause-store
-run_in_threads-requires-clause-store g c κs within = run_over c.args.input.now c.args.callers c.args.workers c.args.warm c.args.store.now c.deal.new.store c.in_ok-slots.slots.items c.requires.prepared c.in_ok-slots.ensures c.requires.fits
+run_in_threads-requires-clause-store g c κs within = run_over c.args.input.now c.args.callers c.args.workers c.args.warm c.args.store.now c.deal.new.store
+    c.in_ok-slots.slots.items c.requires.prepared c.in_ok-slots.ensures c.requires.fits
 
 pub run_in_threads-requires-clause-given : goal.run_in_threads-requires-clause-given
-run_in_threads-requires-clause-given g c κs within = (view_of c.args.store.now.code_seat, roles_in c.args.callers c.args.workers, (let same : c.in_ok-slots.slots.items ≡ c.deref_mut.result.now = search rules in subst (λ (xs : List Slot). AllZip (IsFor c.deal.new.store.code c.deal.new.store.profile (view_of c.args.store.now.code_seat)) (roles_in c.args.callers c.args.workers) xs) same (are_for c.args.input.now c.args.callers c.args.workers c.args.warm c.args.store.now c.deal.new.store c.in_ok-slots.slots.items c.requires.prepared c.in_ok-slots.ensures)))
+run_in_threads-requires-clause-given g c κs within = (
+  view_of c.args.store.now.code_seat,
+  roles_in c.args.callers c.args.workers,
+  (let same : c.in_ok-slots.slots.items
+      ≡ c.deref_mut.result.now = search rules in subst
+      (λ (xs : List Slot). AllZip (IsFor c.deal.new.store.code c.deal.new.store.profile (view_of c.args.store.now.code_seat))
+      (roles_in c.args.callers c.args.workers) xs) same
+      (are_for c.args.input.now c.args.callers c.args.workers c.args.warm c.args.store.now c.deal.new.store c.in_ok-slots.slots.items c.requires.prepared
+      c.in_ok-slots.ensures)),
+)
 
 pub join_all-requires-clause-store : goal.join_all-requires-clause-store
-join_all-requires-clause-store g c = can_join c.args.input.now c.args.callers c.args.workers c.args.warm c.args.store.now c.deal.new.store c.in_ok-slots.slots.items c.requires.prepared c.in_ok-slots.ensures
+join_all-requires-clause-store g c = can_join c.args.input.now c.args.callers c.args.workers c.args.warm c.args.store.now c.deal.new.store
+    c.in_ok-slots.slots.items c.requires.prepared c.in_ok-slots.ensures
 
 pub join_all-requires-clause-slots : goal.join_all-requires-clause-slots
 join_all-requires-clause-slots g c =
@@ -25,8 +36,16 @@ join_all-requires-clause-slots g c =
     let t = c.deal.new.store.code in
     let p = c.deal.new.store.profile in
     let calls = c.args.input.now.script.calls in
-    let ends = c.run_in_threads.ensures v roles (let same : c.in_ok-slots.slots.items ≡ c.deref_mut.result.now = search rules in subst (λ (xs : List Slot). AllZip (IsFor c.deal.new.store.code c.deal.new.store.profile (view_of c.args.store.now.code_seat)) (roles_in c.args.callers c.args.workers) xs) same (are_for c.args.input.now c.args.callers c.args.workers c.args.warm c.args.store.now c.deal.new.store c.in_ok-slots.slots.items c.requires.prepared c.in_ok-slots.ensures)) in
-    let back = written_back (IsFor t p v) (HasEnded calls t p v) roles c.in_ok-slots.slots.items c.run_in_threads.new.slots c.in_ok-slots.slots.len c.in_ok-slots.slots.ok.0 (are_for c.args.input.now c.args.callers c.args.workers c.args.warm c.args.store.now c.deal.new.store c.in_ok-slots.slots.items c.requires.prepared c.in_ok-slots.ensures) ends in
+    let ends = c.run_in_threads.ensures v roles (let same : c.in_ok-slots.slots.items
+    ≡ c.deref_mut.result.now = search rules in subst
+    (λ (xs : List Slot). AllZip (IsFor c.deal.new.store.code c.deal.new.store.profile (view_of c.args.store.now.code_seat))
+    (roles_in c.args.callers c.args.workers) xs) same
+    (are_for c.args.input.now c.args.callers c.args.workers c.args.warm c.args.store.now c.deal.new.store c.in_ok-slots.slots.items c.requires.prepared
+    c.in_ok-slots.ensures)) in
+    let back = written_back (IsFor t p v) (HasEnded calls t p v) roles c.in_ok-slots.slots.items c.run_in_threads.new.slots c.in_ok-slots.slots.len
+    c.in_ok-slots.slots.ok.0
+    (are_for c.args.input.now c.args.callers c.args.workers c.args.warm c.args.store.now c.deal.new.store c.in_ok-slots.slots.items c.requires.prepared
+    c.in_ok-slots.ensures) ends in
     subst (All (SlotJoins t p)) (sym back) (all_join calls t p v roles c.run_in_threads.new.slots ends)
 
 pub returns : goal.returns
@@ -36,6 +55,15 @@ returns g c =
     let t = c.deal.new.store.code in
     let p = c.deal.new.store.profile in
     let calls = c.args.input.now.script.calls in
-    let ends = c.run_in_threads.ensures v roles (let same : c.in_ok-slots.slots.items ≡ c.deref_mut.result.now = search rules in subst (λ (xs : List Slot). AllZip (IsFor c.deal.new.store.code c.deal.new.store.profile (view_of c.args.store.now.code_seat)) (roles_in c.args.callers c.args.workers) xs) same (are_for c.args.input.now c.args.callers c.args.workers c.args.warm c.args.store.now c.deal.new.store c.in_ok-slots.slots.items c.requires.prepared c.in_ok-slots.ensures)) in
-    let back = written_back (IsFor t p v) (HasEnded calls t p v) roles c.in_ok-slots.slots.items c.run_in_threads.new.slots c.in_ok-slots.slots.len c.in_ok-slots.slots.ok.0 (are_for c.args.input.now c.args.callers c.args.workers c.args.warm c.args.store.now c.deal.new.store c.in_ok-slots.slots.items c.requires.prepared c.in_ok-slots.ensures) ends in
-    roles_ran c.args.input.now c.args.callers c.args.workers c.args.warm c.args.store.now c.deal.new.store c.in_ok-slots.slots.items c.requires.prepared c.in_ok-slots.ensures _ c.in_ok-answers.answers _ (subst (AllZip (HasEnded calls t p v) roles) (sym back) ends) c.in_ok-answers.ensures
+    let ends = c.run_in_threads.ensures v roles (let same : c.in_ok-slots.slots.items
+    ≡ c.deref_mut.result.now = search rules in subst
+    (λ (xs : List Slot). AllZip (IsFor c.deal.new.store.code c.deal.new.store.profile (view_of c.args.store.now.code_seat))
+    (roles_in c.args.callers c.args.workers) xs) same
+    (are_for c.args.input.now c.args.callers c.args.workers c.args.warm c.args.store.now c.deal.new.store c.in_ok-slots.slots.items c.requires.prepared
+    c.in_ok-slots.ensures)) in
+    let back = written_back (IsFor t p v) (HasEnded calls t p v) roles c.in_ok-slots.slots.items c.run_in_threads.new.slots c.in_ok-slots.slots.len
+    c.in_ok-slots.slots.ok.0
+    (are_for c.args.input.now c.args.callers c.args.workers c.args.warm c.args.store.now c.deal.new.store c.in_ok-slots.slots.items c.requires.prepared
+    c.in_ok-slots.ensures) ends in
+    roles_ran c.args.input.now c.args.callers c.args.workers c.args.warm c.args.store.now c.deal.new.store c.in_ok-slots.slots.items c.requires.prepared
+    c.in_ok-slots.ensures _ c.in_ok-answers.answers _ (subst (AllZip (HasEnded calls t p v) roles) (sym back) ends) c.in_ok-answers.ensures

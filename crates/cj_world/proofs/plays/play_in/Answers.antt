@@ -40,7 +40,8 @@ loop-event-preserved c =
     let lt = c.loop-event-test.true in
     let w = world_of c.loop-event.world in
     let v = world_of c.happen.new.self in
-    let happens = subst (λ (Q : Program). Happens Q c.args.words event w v) i.checked (subst (λ (n : ℕ). Happens c.loop-event.world.cache.checked.now n event w v) i.words e.made) in
+    let happens = subst (λ (Q : Program). Happens Q c.args.words event w v) i.checked
+    (subst (λ (n : ℕ). Happens c.loop-event.world.cache.checked.now n event w v) i.words e.made) in
     record {
       happened = happened_more P c.args.words es (first_world P) k w v event lt c.event-item.is happens i.happened;
       checked = e.checked ∙ i.checked;
@@ -68,4 +69,5 @@ returns c =
     ∙ ap (λ (n : ℕ). finished P n last) (sym (length-map c.loop-event.world.runs.items run_of)) in
     let checked = f.checked ∙ i.checked in
     let told = subst (λ (Q : Program). AllZip (IsToldOf Q (codes_in (made_in w.cache))) w.runs.items c.in_ok-played.played.reports) checked t.reports in
-    answers c.reports_have_the_headline.ensures P c.args.words c.args.events.now last w c.in_ok-played.played c.program-program.ensures.well_formed checked happened ended f.orderly told t.compiled t.skips
+    answers c.reports_have_the_headline.ensures P c.args.words c.args.events.now last w c.in_ok-played.played c.program-program.ensures.well_formed checked
+    happened ended f.orderly told t.compiled t.skips

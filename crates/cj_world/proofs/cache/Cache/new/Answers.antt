@@ -9,10 +9,12 @@ returns-clause-made c = ap (λ entries. map made_of entries) c.new.ensures.empty
 
 pub returns-clause-current : goal.returns-clause-current
 returns-clause-current c =
-    let all : c.loop.index ≡ length c.args.checked.now.functions = omega (arith, ap length c.items-items.ensures, ap (λ p. length p.functions) c.program.ensures.same) in
+    let all : c.loop.index
+    ≡ length c.args.checked.now.functions = omega (arith, ap length c.items-items.ensures, ap (λ p. length p.functions) c.program.ensures.same) in
     c.loop.invariant ∙ ap (λ (n : ℕ). replicate {A = ℕ} n 0) all
 
 pub returns-clause-ready : goal.returns-clause-ready
 returns-clause-ready c =
-    let all : c.loop.index ≡ length c.args.checked.now.functions = omega (arith, ap length c.items-items.ensures, ap (λ p. length p.functions) c.program.ensures.same) in
+    let all : c.loop.index
+    ≡ length c.args.checked.now.functions = omega (arith, ap length c.items-items.ensures, ap (λ p. length p.functions) c.program.ensures.same) in
     first_versions c.args.checked.now c.new.result.entries c.loop.current c.new.ensures.empty (c.loop.invariant ∙ ap (λ (n : ℕ). replicate {A = ℕ} n 0) all)

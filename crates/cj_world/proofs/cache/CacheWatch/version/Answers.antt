@@ -15,4 +15,5 @@ returns-clause-code c =
 
 pub returns-clause-program : goal.returns-clause-program
 returns-clause-program c =
-    found_program c.args.self.now.checked.now c.args.self.now.versions.entries c.args.offset c.in-Some.version.now c.requires.ready.programs (sym c.in-Some.ensures.value)
+    found_program c.args.self.now.checked.now c.args.self.now.versions.entries c.args.offset c.in-Some.version.now c.requires.ready.programs
+    (sym c.in-Some.ensures.value)

@@ -80,7 +80,8 @@ returns-clause-fits c =
       program = e.program ∙ c.requires.fits.program;
       takes = c.requires.fits.takes;
       running = λ none. e.running ∙ told_on c.in_ok-turned.turned c.end_in-self.result c.end_in-self.ensures none;
-      used = gone_used P r.engine.program codes (codes_in (made_in c.advance.new.watch)) c.requires.fits.program (same_codes old c.advance.new.watch e.keeps.stays)
+      used = gone_used P r.engine.program codes (codes_in (made_in c.advance.new.watch)) c.requires.fits.program
+          (same_codes old c.advance.new.watch e.keeps.stays)
           s c.advance.new.self.state c.advance.new.self.looks c.args.count c.turns_left-turns.result r.call.now.limit few within
           old.current (run_of r) old.trail c.advance.new.watch.trail c.in_ok-turned.turned refl is.used
           (ap (λ (o : Option End). progress_by o s) c.requires.goes_on) e.gains e.onward.told.trail e.onward.made;

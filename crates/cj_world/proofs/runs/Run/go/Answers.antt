@@ -11,4 +11,5 @@ unfolding run_of progress_by
 returns-in-Some-clause-made c =
     let r = c.args.self.now in
     let old = c.args.cache.now in
-    sym (over_rests old.checked.now (codes_in (made_in old)) old.current (run_of r) c.in-Some.field-0 r.engine.state c.args.count (ap (λ (o : Option End). progress_by o r.engine.state) c.in-Some.is))
+    sym (over_rests old.checked.now (codes_in (made_in old)) old.current (run_of r) c.in-Some.field-0 r.engine.state c.args.count
+    (ap (λ (o : Option End). progress_by o r.engine.state) c.in-Some.is))

@@ -10,7 +10,8 @@ use Rattle.cj_world.proofs.world.World.begin.Goals as goal
 pub returns-clause-made : goal.returns-clause-made
 returns-clause-made c =
     let e = c.in_ok-run.ensures in
-    begun_world c.args.self.now.cache.checked.now (begun c.args.call.now) c.args.self.now _ c.in_ok-run.run' e.stays refl refl refl c.in_ok-push.ensures.items e.trail e.made
+    begun_world c.args.self.now.cache.checked.now (begun c.args.call.now) c.args.self.now _ c.in_ok-run.run' e.stays refl refl refl c.in_ok-push.ensures.items
+    e.trail e.made
 
 pub returns-clause-orderly : goal.returns-clause-orderly
 returns-clause-orderly c =

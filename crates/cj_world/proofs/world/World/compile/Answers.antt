@@ -10,6 +10,7 @@ returns-clause-made c =
       c.in_ok-version.version.code,
       c.in_ok-version.skips,
       c.in_ok-version.ensures.made,
-      compiled_world c.args.self.now.words c.in_ok-version.version.code c.in_ok-version.skips c.in_ok-answer.answer (world_of c.args.self.now) (world_of c.publish.new.self) _
+      compiled_world c.args.self.now.words c.in_ok-version.version.code c.in_ok-version.skips c.in_ok-answer.answer (world_of c.args.self.now)
+          (world_of c.publish.new.self) _
           e.answer e.made (same_world _ _ refl refl refl refl refl c.in_ok-push.ensures.ok c.in_ok-push-2.ensures.ok),
     )

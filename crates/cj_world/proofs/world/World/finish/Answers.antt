@@ -28,7 +28,8 @@ loop-place-preserved c =
     let same : run ≡ e.gone.was = same_Some run e.gone.was (sym at ∙ e.gone.at) in
     let through : IsThrough e.gone.now = e.gone.through (ap (λ (r : Run). r.call.now.limit) (sym same)) in
     let made = subst (λ (Q : Program). world_of c.go.new.self ≡ steps Q k run.call.now.limit (world_of c.loop-place.self)) i.checked e.made in
-    let all : take (k + 1) c.go.new.self.runs.items ≡ take k items ++ e.gone.now ∷ [] = ap (λ (rs : List Run). take (k + 1) rs) e.gone.instead ∙ take_more_set items k e.gone.now below in
+    let all : take (k + 1) c.go.new.self.runs.items ≡ take k items ++ e.gone.now ∷ [] = ap (λ (rs : List Run). take (k + 1) rs) e.gone.instead
+    ∙ take_more_set items k e.gone.now below in
     record {
       made = finished_more P k (world_of c.args.self.now) c.loop-place.self c.go.new.self run i.made at made;
       checked = e.checked ∙ i.checked;

@@ -13,7 +13,8 @@ returns-clause-made c =
     let e = c.in_ok-go.ensures in
     let w = c.args.self.now in
     let was = c.index_mut-run.result.now in
-    let found : slice_get w.runs.items c.args.place ≡ Some was = slice_get_read w.runs.items _ c.args.place was refl c.requires.begun c.index_mut-run.ensures.value in
+    let found : slice_get w.runs.items c.args.place
+    ≡ Some was = slice_get_read w.runs.items _ c.args.place was refl c.requires.begun c.index_mut-run.ensures.value in
     gone_world w.cache.checked.now c.args.place c.args.count w _ was c.go.new.self e.stays refl refl refl found refl e.gains e.made
 
 pub returns-clause-gone : goal.returns-clause-gone

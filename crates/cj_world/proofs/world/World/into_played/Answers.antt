@@ -15,7 +15,8 @@ loop-run-preserved c =
     let codes = codes_in (made_in c.args.self.cache) in
     let items = c.args.self.runs.items in
     let gives = c.into_iter-run-iterator.ensures.into_iter_gives in
-    let t = YieldsList-turn (YieldsList-from_vec {s = c.into_iter-run-iterator.result} items gives.0 (gives.1 ∙ c.args.self.runs.ok.0)) c.loop-run.yielded c.loop-run.run-iterator c.loop-run.yielded_by c.next.result c.next.new.self c.in-Some.run' c.in-Some.is c.next.ensures.steps in
+    let t = YieldsList-turn (YieldsList-from_vec {s = c.into_iter-run-iterator.result} items gives.0 (gives.1 ∙ c.args.self.runs.ok.0)) c.loop-run.yielded
+    c.loop-run.run-iterator c.loop-run.yielded_by c.next.result c.next.new.self c.in-Some.run' c.in-Some.is c.next.ensures.steps in
     let k = length c.loop-run.yielded in
     let fits : Fits P codes c.in-Some.run' = subst (λ (r : Run). Fits P codes r) (sym t.1) (c.requires.orderly.fit k c.in-Some.run' t.0) in
     let told : IsToldOf P codes c.in-Some.run' c.report.result = record {

@@ -52,4 +52,5 @@ returns-clause-orderly c =
     let e = c.in_ok-publish.ensures in
     let len = words_in c.args.version.code in
     let count = subst (λ (n : WordCount). HasWords len n) c.in-Few.is c.word_count.ensures in
-    published_orderly c.later_codes_keep_a_run.ensures c.later_codes_keep_a_report.ensures c.args.version.code w _ e.ready e.checked (ap (λ need. w.next + need) count.1) e.made refl c.requires.orderly
+    published_orderly c.later_codes_keep_a_run.ensures c.later_codes_keep_a_report.ensures c.args.version.code w _ e.ready e.checked
+    (ap (λ need. w.next + need) count.1) e.made refl c.requires.orderly
