@@ -58,6 +58,15 @@ call main 1 -2 memory 64 limit 10
 call leaf memory 0 limit 1000000
 ";
 
+const BEFORE_EVENTS: &[u8] = b"fun f() {\n1: return 0\n}\nevents";
+
+const EVENTS: Token = Token {
+    line: 4,
+    start: 24,
+    end: 30,
+    what: Piece::Keyword,
+};
+
 #[test]
 fn canonical_texts_are_read_as_what_they_print(rt: HostRuntime) -> Result<(), Fail> {
     let alloc = rt.alloc();
@@ -86,25 +95,30 @@ fn canonical_texts_are_read_as_what_they_print(rt: HostRuntime) -> Result<(), Fa
 }
 
 #[test]
-fn functions_are_gone_past_and_read(rt: HostRuntime) -> Result<(), Fail> {
-    let mut tokens = Tokens::of(b"calls fun f() {\n1: return 0\n}\nevents");
-    assert!(rt; tokens.next().is_ok());
+fn functions_are_gone_past(rt: HostRuntime) -> Result<(), Fail> {
+    let mut tokens = Tokens::of(BEFORE_EVENTS);
+    assert_eq!(rt; tokens.shape(), Ok(()));
+    assert_eq!(rt; tokens.next(), Ok(EVENTS));
+    Ok(())
+}
+
+#[test]
+fn functions_are_read(rt: HostRuntime) -> Result<(), Fail> {
+    let mut tokens = Tokens::of(BEFORE_EVENTS);
     let mut ahead = tokens;
     assert_eq!(rt; ahead.shape(), Ok(()));
-    let events = Token {
-        line: 4,
-        start: 30,
-        end: 36,
-        what: Piece::Keyword,
-    };
-    assert_eq!(rt; ahead.next(), Ok(events));
-
     let program = read_program(rt.alloc(), &mut tokens)?;
     assert_eq!(rt; program.program().functions.items().len(), 1);
-    assert_eq!(rt; tokens.next(), Ok(events));
+    assert_eq!(rt; tokens.next(), Ok(EVENTS));
+    Ok(())
+}
 
+#[test]
+fn what_begins_no_functions_is_refused(rt: HostRuntime) -> Result<(), Fail> {
+    let mut tokens = Tokens::of(b"calls\nevents");
+    assert!(rt; tokens.next().is_ok());
     let refused = Refused {
-        line: 4,
+        line: 2,
         kind: Kind::Syntax,
     };
     assert_eq!(rt; tokens.shape(), Err(refused));
