@@ -11,8 +11,8 @@ use Rattle.cj_parts.specs.Calls.{Stands}
 use Rattle.cj_parts.proofs.Growth.{zip_push}
 use Rattle.cj_notes.specs.declared.notes.WorkNote.{WorkNote}
 use Rattle.cj_records.specs.Items.{setup_items}
-use Rattle.cj_records.specs.Loops.{Prepared}
-use Rattle.cj_records.specs.Versions.{HasHeadline, AloneShows}
+use Rattle.cj_records.specs.Loops.{Prepared, RoundsShow}
+use Rattle.cj_records.specs.Versions.{HasHeadline}
 use Rattle.cj_records.proofs.OneThread.{alone_none, alone_push}
 use Rattle.cj_alone.specs.declared.rounds.Progress.{Progress}
 use Rattle.cj_alone.specs.Seats.{view_at, reads_at}
@@ -25,8 +25,8 @@ module _ (P : Program) (start : Progress) where
   rounds_none none ok = record {
     headline = subst (HasHeadline P []) (sym none) tt;
     shows = λ (setups : List Setup) (p : Prepared P setups setups start.work (view_at start.seats) (reads_at start.seats)).
-        subst (λ (rs : List Report). AloneShows P setups [] rs start.work (view_at start.seats) (reads_at start.seats)) (sym none)
-        (alone_none P setups start.work (view_at start.seats) (reads_at start.seats) ok p.are_warm p.notes p.lookups p.in_parts);
+        subst (λ (rs : List Report). RoundsShow P setups [] rs start.work (view_at start.seats) (reads_at start.seats)) (sym none)
+        (alone_none P setups start.work (view_at start.seats) (reads_at start.seats) ok p.are_warm p.notes p.lookups p.in_parts p.alone);
   }
 
   -- one round more
@@ -35,8 +35,8 @@ module _ (P : Program) (start : Progress) where
   rounds_push calls call a b h r ok = record {
     headline = subst (HasHeadline P (calls ++ call ∷ [])) (sym r.reports) (zip_push (Stands P) calls a.reports call r.report h.headline r.ran.stands);
     shows = λ (setups : List Setup) (p : Prepared P setups setups start.work (view_at start.seats) (reads_at start.seats)).
-        subst (λ (rs : List Report). AloneShows P setups (calls ++ call ∷ []) rs b.work (view_at b.seats) (reads_at b.seats)) (sym r.reports)
-        (subst (λ (ns : List WorkNote). AloneShows P setups (calls ++ call ∷ []) (a.reports ++ r.report ∷ []) ns (view_at b.seats) (reads_at b.seats))
+        subst (λ (rs : List Report). RoundsShow P setups (calls ++ call ∷ []) rs b.work (view_at b.seats) (reads_at b.seats)) (sym r.reports)
+        (subst (λ (ns : List WorkNote). RoundsShow P setups (calls ++ call ∷ []) (a.reports ++ r.report ∷ []) ns (view_at b.seats) (reads_at b.seats))
         (sym r.work)
         (alone_push P setups calls a.reports a.work (view_at a.seats) r.view (view_at b.seats) (reads_at a.seats) r.reads
         (reads_at b.seats) call r.report r.note (h.shows setups p) r.ran r.worked ok));

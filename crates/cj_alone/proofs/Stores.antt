@@ -16,6 +16,7 @@ use Rattle.cj_records.specs.declared.store.Store.{Store}
 use Rattle.cj_records.specs.Loops.{Prepared, IsPrepared}
 use Rattle.cj_records.specs.Versions.{IsWholeStore, AloneStands}
 use Rattle.cj_records.proofs.Roles.{prepared_none}
+use Rattle.cj_records.proofs.Published.{alone_at_first}
 use Rattle.cj_records.proofs.Standing.{began_new}
 use Rattle.cj_alone.specs.declared.seats.Seats.{Seats}
 use Rattle.cj_alone.specs.declared.rounds.Progress.{Progress}
@@ -79,11 +80,11 @@ module _ (P : Program) (size : ℕ) (t : CodeTable) (p : Profile) (old new : Sea
             all_joined = ap length (same.profile.joined ∙ hinted.joined ∙ begins.joined);
           };
         };
-        code_sole = same.code.sole ∙ sole;
         profile_sole = same.profile.sole ∙ hinted.sole ∙ sole_first;
         free = free.free;
         prepared = warmed setups
-            (prepared_none P setups (view_at old) (reads_at old) (ap (λ (v : View). v.taken) is_fresh) (ap (λ (v : View). v.lookups) is_fresh) set);
+            (prepared_none P setups (view_at old) (reads_at old) (ap (λ (v : View). v.taken) is_fresh) (ap (λ (v : View). v.lookups) is_fresh)
+            (alone_at_first (view_at old) sole (ap (λ (v : View). v.regions) is_fresh)) set);
       }
 
 -- the calls are made
@@ -100,6 +101,6 @@ alone_stands P size setups calls s start done at h free same rounds =
     let whole = whole_later P size s.code s.profile seats done.seats free kept h.store in
     record {
       store = whole;
-      began = began_new 0 size P (store_with s.code s.profile done.seats) whole (kept.code.sole ∙ h.code_sole) (kept.profile.sole ∙ h.profile_sole);
-      shows = rounds.shows setups prepared;
+      began = began_new 0 size P (store_with s.code s.profile done.seats) whole (kept.code.sole ∙ h.prepared.alone.sole) (kept.profile.sole ∙ h.profile_sole);
+      shows = (rounds.shows setups prepared).shows;
     }

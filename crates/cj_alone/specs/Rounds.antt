@@ -9,8 +9,8 @@ use Rattle.cj_publish.specs.declared.view.View.{View}
 use Rattle.cj_parts.specs.Calls.{Ran}
 use Rattle.cj_notes.specs.declared.notes.WorkNote.{WorkNote}
 use Rattle.cj_notes.specs.Works.{WorkedOne}
-use Rattle.cj_records.specs.Loops.{Prepared}
-use Rattle.cj_records.specs.Versions.{HasHeadline, AloneShows}
+use Rattle.cj_records.specs.Loops.{Prepared, RoundsShow}
+use Rattle.cj_records.specs.Versions.{HasHeadline}
 use Rattle.cj_alone.specs.declared.rounds.Progress.{Progress}
 use Rattle.cj_alone.specs.Seats.{view_at, reads_at}
 
@@ -30,4 +30,4 @@ pub record RoundMade (P : Program) (call : Begun) (a b : Progress) : Type 0 wher
 pub record RoundsMade (P : Program) (calls : List Begun) (a b : Progress) : Type 0 where
   pub headline : HasHeadline P calls b.reports
   pub shows : (setups : List Setup) → Prepared P setups setups a.work (view_at a.seats) (reads_at a.seats) →
-      AloneShows P setups calls b.reports b.work (view_at b.seats) (reads_at b.seats)
+      RoundsShow P setups calls b.reports b.work (view_at b.seats) (reads_at b.seats)

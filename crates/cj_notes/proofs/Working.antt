@@ -1,5 +1,5 @@
 -- The causes of a worker's notes, from what the calls of the code table say.
-use Rattle.std.proofs.Common.{◌≡◌, ◌∙◌, refl, sym, ap, subst, arith, le_refl, ℕ, ◌+◌, ◌≤◌, ◌<◌, List, [], length, Some, None}
+use Rattle.std.proofs.Common.{◌≡◌, ◌⊎◌, ◌∙◌, refl, sym, ap, subst, arith, le_refl, ℕ, ◌+◌, ◌≤◌, ◌<◌, List, [], length, Some, None}
 use Rattle.std.proofs.lemmas.Option.{same_Some}
 use Rattle.cj_ir.specs.declared.language.FunId.{FunId}
 use Rattle.cj_ir.specs.declared.language.Program.{Program}
@@ -8,7 +8,9 @@ use Rattle.cj_draft.specs.declared.passes.Skipped.{Skipped}
 use Rattle.cj_spelling.specs.Spells.{Spells, EncodeFails}
 use Rattle.cj_spelling.specs.declared.codes.EncodeError.TheVariants as encode
 use Rattle.cj_profile.specs.declared.snapshot.Snapshot.{Snapshot}
+use Rattle.cj_publish.specs.declared.view.Cell.{Cell}
 use Rattle.cj_publish.specs.declared.view.Claim.{Claim}
+use Rattle.cj_publish.specs.declared.view.Region.{Region}
 use Rattle.cj_publish.specs.declared.view.Key.{Key}
 use Rattle.cj_publish.specs.declared.view.View.{View}
 use Rattle.cj_publish.specs.declared.publishing.Claim.TheVariants as answer
@@ -16,6 +18,7 @@ use Rattle.cj_publish.specs.declared.publishing.Published.TheVariants as how
 use Rattle.cj_publish.specs.Calls.{Claims, Fills, Publishes}
 use Rattle.cj_publish.specs.Plays.{with_claim}
 use Rattle.cj_publish.specs.Fetched.{main_of}
+use Rattle.cj_publish.specs.Seen.{IsAmong, SeenAt, SeesNoMore}
 use Rattle.cj_publish.specs.Learns.{Learns}
 use Rattle.cj_notes.specs.declared.notes.WorkNote.TheVariants.{Published, Older, Full, TooLarge, NoneAsked, Taken}
 use Rattle.cj_notes.specs.Jobs.{job, IsMadeFor}
@@ -41,6 +44,7 @@ idle P v none = record {
   cause = record { has_code = refl; shown = tt };
   fresh = tt;
   taken = omega arith;
+  alone = λ sole. (sole, λ f o x. x);
 }
 
 pub late : (P : Program) (f : FunId) (found : ℕ) (v : View) → v.claim ≡ None → Worked P (record { note = Taken f found; code = None }) v v
@@ -53,6 +57,7 @@ late P f found v none = record {
   cause = record { has_code = refl; shown = tt };
   fresh = tt;
   taken = omega arith;
+  alone = λ sole. (sole, λ f o x. x);
 }
 
 module _ (P : Program) (f : FunId) (level : ℕ) (s : Snapshot) (code : Code) (skips : List (ℕ × Skipped)) (made : IsMadeFor P (job f level s) code skips) where
@@ -68,6 +73,7 @@ module _ (P : Program) (f : FunId) (level : ℕ) (s : Snapshot) (code : Code) (s
     cause = record { has_code = ((skips, made), long); shown = tt };
     fresh = tt;
     taken = omega arith;
+    alone = λ sole. (sole, λ f o x. x);
   }
 
   module _ (words : List ℕ) (spells : Spells words code) where
@@ -88,6 +94,7 @@ module _ (P : Program) (f : FunId) (level : ℕ) (s : Snapshot) (code : Code) (s
           };
           fresh = sym at;
           taken = let e : w.taken ≡ v.taken = ap (λ (x : View). x.taken) h.0 in omega arith;
+          alone = λ sole. (ap (λ (x : View). x.sole) h.0 ∙ sole, subst (SeesNoMore v) (sym h.0) (λ f o x. x));
         }
 
     module _ (v a b w : View) (offset : ℕ) (g : Learns v a) (k : Learns b w) (claimed : Claims v (length words) (answer.Claimed offset) a)
@@ -103,6 +110,12 @@ module _ (P : Program) (f : FunId) (level : ℕ) (s : Snapshot) (code : Code) (s
 
       taken_b : b.taken ≡ v.taken + word_count code
       taken_b = ap (λ (x : View). x.taken) b_is ∙ ap (λ (x : View). x.taken) claimed.0 ∙ ap (λ (n : ℕ). v.taken + n) (count_of words code spells)
+
+      sole_b : b.sole ≡ v.sole
+      sole_b = ap (λ (x : View). x.sole) b_is ∙ ap (λ (x : View). x.sole) claimed.0
+
+      regions_b : b.regions ≡ v.regions
+      regions_b = ap (λ (x : View). x.regions) b_is ∙ ap (λ (x : View). x.regions) claimed.0
 
       learned : Learns v w
       learned =
@@ -129,6 +142,10 @@ module _ (P : Program) (f : FunId) (level : ℕ) (s : Snapshot) (code : Code) (s
             };
             fresh = subst (λ (n : ℕ). v.next ≤ n) (sym o_is) claimed.1;
             taken = gains.taken ∙ taken_b;
+            alone = λ sole. (
+              gains.sole ∙ sole_b ∙ sole,
+              subst (λ (rs : List Region). (g : Cell) (p : ℕ) → SeenAt w g p → IsAmong rs g p ⊎ ((g ≡ main_of f) × (p ≡ o))) regions_b (h.6 (sole_b ∙ sole)),
+            );
           }
 
       -- a newer one was found
@@ -151,4 +168,5 @@ module _ (P : Program) (f : FunId) (level : ℕ) (s : Snapshot) (code : Code) (s
             };
             fresh = subst (λ (n : ℕ). v.next ≤ n) (sym mine_is) claimed.1;
             taken = gains.taken ∙ taken_b;
+            alone = λ sole. absurd (h.7 (sole_b ∙ sole));
           }

@@ -1,11 +1,13 @@
 -- What a worker's call does to the views of its seats.
-use Rattle.std.specs.Prelude.{◌≡◌, ℕ, ◌+◌, ◌≤◌, List, Option, Some, None, ⊤}
+use Rattle.std.specs.Prelude.{◌≡◌, ℕ, ◌+◌, ◌≤◌, true, List, Option, Some, None, ⊤}
 use Rattle.cj_ir.specs.declared.language.FunId.{FunId}
 use Rattle.cj_ir.specs.declared.language.Program.{Program}
 use Rattle.cj_draft.specs.declared.code.Code.{Code}
 use Rattle.cj_profile.specs.declared.view.Read.{Read}
 use Rattle.cj_publish.specs.declared.view.View.{View}
+use Rattle.cj_publish.specs.Fetched.{main_of}
 use Rattle.cj_publish.specs.Learns.{Learns}
+use Rattle.cj_publish.specs.Seen.{SeesNoMore, SeesOneMore}
 use Rattle.cj_parts.specs.Calls.{GainsPart}
 use Rattle.cj_notes.specs.declared.notes.WorkNote.{WorkNote}
 use Rattle.cj_notes.specs.declared.notes.WorkNote.TheVariants.{Published, Older, Full, TooLarge, NoneAsked, Taken}
@@ -23,6 +25,16 @@ IsFresh v w (TooLarge f level len snapshot) = ⊤
 IsFresh v w NoneAsked = ⊤
 IsFresh v w (Taken f found) = ⊤
 
+-- what the only seat that there ever was has seen through a work: nothing new but the version that the note published, and none
+-- came too late
+abbrev pub SeesItsOwn : View → View → WorkNote → Type 0
+SeesItsOwn v w (Published f level offset snapshot skipped) = SeesOneMore v (main_of f) offset w
+SeesItsOwn v w (Older f level mine found snapshot) = ⊥
+SeesItsOwn v w (Full f level next need snapshot) = SeesNoMore v w
+SeesItsOwn v w (TooLarge f level len snapshot) = SeesNoMore v w
+SeesItsOwn v w NoneAsked = SeesNoMore v w
+SeesItsOwn v w (Taken f found) = SeesNoMore v w
+
 -- what a work does to the view of the code seat, where this is its note
 pub record Worked (P : Program) (n : Noted) (v w : View) : Type 0 where
   pub learns : Learns v w
@@ -32,6 +44,7 @@ pub record Worked (P : Program) (n : Noted) (v w : View) : Type 0 where
   pub cause : NoteStands P w n
   pub fresh : IsFresh v w n.note
   pub taken : w.taken ≡ v.taken + claimed_by n
+  pub alone : v.sole ≡ true → (w.sole ≡ true) × SeesItsOwn v w n.note
 
 -- a `warm` line
 pub record WarmLine : Type 0 where

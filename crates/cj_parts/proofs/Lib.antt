@@ -3,3 +3,4 @@ pub mod Growth
 pub mod Rising
 pub mod Counting
 pub mod Calling
+pub mod Finding

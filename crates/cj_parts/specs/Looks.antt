@@ -1,5 +1,5 @@
 -- Lookups, as a seat keeps them and as reports tell them.
-use Rattle.std.specs.Prelude.{◌≡◌, ℕ, ◌≤◌, ◌⊎◌, List, [], ◌∷◌, ◌++◌, All}
+use Rattle.std.specs.Prelude.{◌≡◌, ℕ, ◌≤◌, ◌⊎◌, List, [], ◌∷◌, ◌++◌, All, Contains}
 use Rattle.std.specs.List.{AllPairs}
 use Rattle.cj_calls.specs.declared.report.Look.{Look}
 use Rattle.cj_calls.specs.declared.report.Report.{Report}
@@ -25,6 +25,10 @@ NeverFall looks = AllPairs (λ (x y : Look). x.function ≡ y.function → x.off
 -- the look is at least each of these for its function
 abbrev pub IsAbove : List Look → Look → Type 0
 IsAbove floor look = All (λ (x : Look). x.function ≡ look.function → x.offset ≤ look.offset) floor
+
+-- the look finds the newest of these for its function, or nothing where there is none
+abbrev pub IsNewest : List Look → Look → Type 0
+IsNewest floor look = IsAbove floor look × ((look.offset ≡ 0) ⊎ Contains floor look)
 
 -- the look is no older than what the view has seen
 abbrev pub IsNotOlder : View → Look → Type 0

@@ -103,8 +103,13 @@ pub stays_more : (v w : View) → w.sole ≡ v.sole → w.taken ≡ v.taken → 
 stays_more v w sole taken more is = (sym sole ∙ is, taken, λ f o x. (x.0, more x.0 x.1, x.2, x.3))
 
 pub stays_alone : (k : Key) (known : List Place) (ws : List ℕ) (n : ℕ) (v w : View) → w.taken ≡ v.taken
-    → ((f : Cell) (o : ℕ) → IsAmong v.regions f o → IsAmong w.regions f o) → IsAlone k known ws n v → IsAlone k known ws n w
-stays_alone k known ws n v w taken more h = record { one = h.one; front = let f = h.front in omega arith; seen = λ g m. more g.0 g.1 (h.seen g m) }
+    → ((f : Cell) (o : ℕ) → IsAmong v.regions f o → IsAmong w.regions f o) → Within v w → IsAlone k known ws n v → IsAlone k known ws n w
+stays_alone k known ws n v w taken more same h = record {
+  one = h.one;
+  front = let f = h.front in omega arith;
+  seen = λ g m. more g.0 g.1 (h.seen g m);
+  behind = λ c e g m. let d = same c e in subst (λ (o : ℕ). g.1 + g.2 ≤ o) d.2 (h.behind d.0 d.1 g m);
+}
 
 pub alone_set : (k : Key) (known more : List Place) (ws xs : List ℕ) (vs : List View) (id : ℕ) (v w : View) → get_elem? vs id ≡ some v
     → AreAlone k known ws vs
@@ -133,7 +138,7 @@ module _ {S : Type 0} where
         views = views_set (FitsView k r.known s.words) s.views id w fits (λ j u _ e. r.views j u e);
         apart = apart_set s.views id w r.apart (alone_within s.views id v w r.apart at same);
         alone = alone_set k r.known r.known s.words s.words s.views id v w at r.alone
-            (λ is. let q = stays is in (q.0, stays_alone k r.known s.words (length s.views) v w q.1 q.2));
+            (λ is. let q = stays is in (q.0, stays_alone k r.known s.words (length s.views) v w q.1 q.2 same));
       }
 
   pub fronts : (k : Key) (slots id : ℕ) (me : Me S View) → me.0.live ≡ true → me.0.key ≡ k
@@ -212,7 +217,16 @@ module _ {S : Type 0} where
             (λ c e j u d ne ej ed. let h = ((r.views j u ej).claim d ed).ends in let q : record { offset = old; len = len; written = [] } ≡ c = cc in
             subst (λ (y : Claim). Apart y.offset y.len d.offset d.len) q (inr (omega arith)));
         alone = alone_set k r.known r.known s.words (set s.words 0 (old + len)) s.views id v (claiming v old len) at r.alone
-            (λ sole. (sole, λ h. record { one = h.one; front = let f = h.front in omega arith; seen = h.seen }));
+            (λ sole. (
+              sole,
+              λ h. record {
+                one = h.one;
+                front = let f = h.front in omega arith;
+                seen = h.seen;
+                behind = λ c e g m. let q : record { offset = old; len = len; written = [] } ≡ c = cc in
+                    subst (λ (y : Claim). g.1 + g.2 ≤ y.offset) q (below g m);
+              },
+            ));
       }
 
   pub takes : (k : Key) (slots id : ℕ) (me : Me S View) (old len : ℕ) → me.0.live ≡ true → me.0.key ≡ k → me.0.next ≡ old → 0 < len → old + len ≤ k.size

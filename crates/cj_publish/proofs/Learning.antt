@@ -3,13 +3,14 @@ use Rattle.std.proofs.Common.{◌≡◌, ℕ, ◌≤◌, List, [], ◌∷◌, �
 use Rattle.cj_publish.specs.declared.view.Cell.{Cell}
 use Rattle.cj_publish.specs.declared.view.View.{View}
 use Rattle.cj_publish.specs.Views.{with_next, claiming, with_region, with_look}
-use Rattle.cj_publish.specs.Seen.{SeenAt}
+use Rattle.cj_publish.specs.Seen.{SeenAt, SeesNoMore}
 use Rattle.cj_publish.specs.Reliable.{IsReliable}
 use Rattle.cj_publish.specs.Plays.{region, Sees}
 use Rattle.cj_publish.specs.Calls.{Claims, Gains, Grows}
 use Rattle.cj_publish.specs.declared.publishing.Claim.{Claim as ClaimAnswer}
 use Rattle.cj_publish.specs.declared.publishing.Claim.TheVariants.{Claimed, Full}
 use Rattle.cj_publish.specs.Learns.{Learns, learns_more}
+use Rattle.cj_publish.proofs.Several.{sees_itself, sees_again}
 
 pub sees_learns : (v u w : View) (f : Cell) (r : ℕ) (x : Cell × ℕ) → Sees v f r u → w ≡ with_look u x → Learns v w
 sees_learns v u w f r x (inl z) e =
@@ -60,3 +61,10 @@ sees_sole v u w f r x (inr z) e = ap (λ (y : View). y.sole) e ∙ ap (λ (y : V
 pub claims_sole : (v w : View) (len : ℕ) (answer : ClaimAnswer) → Claims v len answer w → w.sole ≡ v.sole
 claims_sole v w len (Claimed o) h = ap (λ (y : View). y.sole) h.0
 claims_sole v w len (Full next need) h = ap (λ (y : View). y.sole) h.0
+
+-- a lookup that found nothing, or what was seen already
+pub sees_no_more : (v u w : View) (f : Cell) (r : ℕ) (x : Cell × ℕ) → Sees v f r u → w ≡ with_look u x → (¬ (r ≡ 0) → SeenAt v f r) → SeesNoMore v w
+sees_no_more v u w f r x (inl z) e known = subst (SeesNoMore v) (sym (e ∙ ap (λ (y : View). with_look y x) z.1)) (sees_itself v)
+sees_no_more v u w f r x (inr z) e known =
+    let some = z.1 in
+    subst (SeesNoMore v) (sym (e ∙ ap (λ (y : View). with_look y x) z.3)) (sees_again v (region f r z.0 []) (known (λ nothing. omega arith)))

@@ -11,7 +11,7 @@ use Rattle.cj_publish.specs.declared.view.Region.{Region}
 use Rattle.cj_publish.specs.declared.view.View.{View}
 use Rattle.cj_publish.specs.Words.{Has, Each}
 use Rattle.cj_publish.specs.Rule.{IsVersion}
-use Rattle.cj_publish.specs.Seen.{SeenAt, ReadWhole}
+use Rattle.cj_publish.specs.Seen.{SeenAt, ReadWhole, SeesNoMore, SeesOneMore}
 use Rattle.cj_publish.specs.Views.{with_claim, with_regions, with_region}
 use Rattle.cj_publish.specs.Reliable.{IsSpelled}
 use Rattle.cj_publish.specs.Plays.{region, Finds, take_in, Fetches, fetched}
@@ -25,13 +25,13 @@ use Rattle.cj_publish.specs.declared.publishing.Published.{Published}
 use Rattle.cj_publish.specs.declared.publishing.Published.TheVariants as how
 use Rattle.cj_publish.specs.Seated.{IsHeld, IsWithin}
 use Rattle.cj_publish.specs.Calls.{Gains, Grows, Publishes}
-use Rattle.cj_publish.proofs.Looks.{map_has, taken_in, same_place}
+use Rattle.cj_publish.proofs.Looks.{map_has, has_map, taken_in, same_place}
 
 -- the state of a search for an offset below the claim's, where f's word was found at o
 abbrev pub Searching : View → Claim → Cell → ℕ → View → Type 0
 Searching v c f o u =
-    (o < c.offset → Gains v u × (u.claim ≡ Some c) × ((o ≡ 0) ⊎ SeenAt u f o))
-    × (c.offset ≤ o → (c.offset < o) × Gains v u × (u.claim ≡ None) × SeenAt u f o)
+    (o < c.offset → Gains v u × (u.claim ≡ Some c) × ((o ≡ 0) ⊎ SeenAt u f o) × (v.sole ≡ true → SeesNoMore v u))
+    × (c.offset ≤ o → (c.offset < o) × Gains v u × (u.claim ≡ None) × SeenAt u f o × ¬ (v.sole ≡ true))
 
 -- the first k words of the region of f at o, which has n, are read
 abbrev pub HasRead : View → Cell → ℕ → ℕ → ℕ → List ℕ → Type 0
@@ -72,16 +72,37 @@ gains_claim v u c g = record {
   within = g.within;
 }
 
+pub sees_itself : (v : View) → SeesNoMore v v
+sees_itself v f o x = x
+
+-- a region at a place that was seen tells nothing new
+pub sees_again : (v : View) (r : Region) → SeenAt v r.cell r.offset → SeesNoMore v (with_region v r)
+sees_again v r seen f o (x, inl e, cell, offset) =
+    subst (λ (y : Cell × ℕ). SeenAt v y.0 y.1) (λ i. ((ap (λ (y : Region). y.cell) e ∙ cell) i, (ap (λ (y : Region). y.offset) e ∙ offset) i)) seen
+sees_again v r seen f o (x, inr m, cell, offset) = (x, m, cell, offset)
+
+pub sees_one : (v : View) (r : Region) → SeesOneMore v r.cell r.offset (with_region v r)
+sees_one v r f o (x, inl e, cell, offset) = inr (sym cell ∙ sym (ap (λ (y : Region). y.cell) e), sym offset ∙ sym (ap (λ (y : Region). y.offset) e))
+sees_one v r f o (x, inr m, cell, offset) = inl (x, m, cell, offset)
+
 -- what one step of the search finds
-pub found_gives : (v u w : View) (c : Claim) (f : Cell) (o : ℕ) → Gains v u → u.claim ≡ Some c → Finds u c.offset f o w → Searching v c f o w
-found_gives v u w c f o g is h = (
+pub found_gives : (v u w : View) (c : Claim) (f : Cell) (o : ℕ) → Gains v u → u.claim ≡ Some c → (v.sole ≡ true → SeesNoMore v u)
+    → Finds u c.offset f o w → Searching v c f o w
+found_gives v u w c f o g is no_more h = (
   (λ low. ⊎_elim
-      (λ (z : (o ≡ 0) × (w ≡ u)). (subst (Gains v) (sym z.1) g, ap (λ (y : View). y.claim) z.1 ∙ is, inl z.0))
+      (λ (z : (o ≡ 0) × (w ≡ u)). (
+        subst (Gains v) (sym z.1) g,
+        ap (λ (y : View). y.claim) z.1 ∙ is,
+        inl z.0,
+        λ sole. subst (SeesNoMore v) (sym z.1) (no_more sole),
+      ))
       (λ (z : (n : ℕ) × (0 < o) × (o < u.key.size) × (w ≡ with_region u (region f o n []))).
       let s : View = with_region u (region f o z.0 []) in (
         subst (Gains v) (sym z.3) (gains_region v u (region f o z.0 []) z.2 g),
         ap (λ (y : View). y.claim) z.3 ∙ is,
         inr (subst (λ (y : View). SeenAt y f o) (sym z.3) (region f o z.0 [], inl refl, refl, refl)),
+        λ sole. subst (SeesNoMore v) (sym z.3) (λ e p x. no_more sole e p
+            (sees_again u (region f o z.0 []) (h.3 (g.sole ∙ sole) (λ nothing. let some = z.1 in omega arith)) e p x)),
       ))
       (h.0 low)),
   (λ high. let z = h.1 high in
@@ -90,13 +111,15 @@ found_gives v u w c f o g is h = (
         subst (Gains v) (sym z.2.1) (gains_claim v s None (gains_region v u (region f o z.2.0 []) z.1 g)),
         ap (λ (y : View). y.claim) z.2.1,
         subst (λ (y : View). SeenAt y f o) (sym z.2.1) (region f o z.2.0 [], inl refl, refl, refl),
+        λ sole. let low = h.2 (g.sole ∙ sole) in omega arith,
       )),
 )
 
 -- the exchange that succeeds
 pub published_gives : (v u w : View) (c : Claim) (f : Cell) → v.claim ≡ Some c → c.offset < u.key.size → Gains v u
+    → (v.sole ≡ true → SeesNoMore v u)
     → w ≡ with_claim (with_region u (region f c.offset c.len c.written)) None → Publishes v f (how.Published c.offset) w
-published_gives v u w c f is inside g e =
+published_gives v u w c f is inside g no_more e =
     let r : Region = region f c.offset c.len c.written in (
       c,
       is,
@@ -104,6 +127,7 @@ published_gives v u w c f is inside g e =
       subst (Gains v) (sym e) (gains_claim v (with_region u r) None (gains_region v u r inside g)),
       ap (λ (y : View). y.claim) e,
       subst (λ (y : View). Has y.regions r) (sym e) (inl refl),
+      λ sole. subst (SeesOneMore v f c.offset) (sym e) (λ h p x. ⊎_elim (λ seen. inl (no_more sole h p seen)) (λ new. inr new) (sees_one u r h p x)),
     )
 
 -- a seat after publishing
@@ -127,6 +151,7 @@ grows_same v = record {
   splits = refl;
   regions =
       λ x h. (x, h, refl, refl, refl, prefix_same x.read);
+  no_more = sees_itself v;
 }
 
 longer : (at r : ℕ) (y : Region) → IsPrefix y.read (take_in at r y).read
@@ -154,12 +179,16 @@ grows_more v u at r g = record {
         p.2 ∙ y.4,
         (y.5.0 ++ q.0, sym (append_assoc x.read y.5.0 q.0) ∙ (ap (λ (l : List ℕ). l ++ q.0) y.5.1 ∙ q.1)),
       );
+  no_more = λ f o y.
+      let x = has_map (take_in at r) u.regions y.0 y.1 in
+      let p = same_place at r x.0 in
+      g.no_more f o (x.0, x.1, sym p.0 ∙ ap (λ (z : Region). z.cell) x.2 ∙ y.2, sym p.1 ∙ ap (λ (z : Region). z.offset) x.2 ∙ y.3);
 }
 
 pub within_more : (u : View) (at r : ℕ) → IsWithin u → IsWithin (with_regions u (map (take_in at r) u.regions))
 within_more u at r h = record {
   claim = h.claim;
-  within = λ y m. let x = Rattle.cj_publish.proofs.Looks.has_map (take_in at r) u.regions y m in
+  within = λ y m. let x = has_map (take_in at r) u.regions y m in
       subst (λ (z : Region). z.offset < u.key.size) x.2 (subst (λ (n : ℕ). n < u.key.size) (sym (same_place at r x.0).1) (h.within x.0 x.1));
 }
 

@@ -137,7 +137,7 @@ opens k ws sized first room rest = record {
   newest = λ f is_cell. inl (rest (number k f + 1) (omega arith));
   views = one;
   apart = λ i j v u c d ne ei ej ec ed. absurd (none_some c (sym (alone i v ei) ∙ ec));
-  alone = λ j v e sole. record { one = refl; front = first ∙ untaken j v e; seen = λ g z. absurd z };
+  alone = λ j v e sole. record { one = refl; front = first ∙ untaken j v e; seen = λ g z. absurd z; behind = λ c q g z. absurd z };
 }
   where
     one : (j : ℕ) (v : View) → get_elem? (fresh k ∷ []) j ≡ some v → FitsView k [] ws v

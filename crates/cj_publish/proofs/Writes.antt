@@ -113,7 +113,15 @@ module _ {S : Type 0} where
         apart = apart_set s.views id w r.apart
             (alone_within s.views id v w r.apart at (λ d e. let q : c' ≡ d = cc in (c, is, ap (λ (y : Claim). y.offset) q, ap (λ (y : Claim). y.len) q)));
         alone = alone_set k r.known r.known s.words ws s.views id v w at r.alone
-            (λ sole. (sole, λ q. record { one = q.one; front = same0 ∙ q.front; seen = q.seen }));
+            (λ sole. (
+              sole,
+              λ q. record {
+                one = q.one;
+                front = same0 ∙ q.front;
+                seen = q.seen;
+                behind = λ d e g m. let z : c' ≡ d = cc in subst (λ (y : Claim). g.1 + g.2 ≤ y.offset) z (q.behind c is g m);
+              },
+            ));
       }
 
   pub writes : (k : Key) (slots id i x : ℕ) (me : Me S View) (c : Claim) → me.0.live ≡ true → me.0.claim ≡ Some c → i ≡ c.offset + length c.written
@@ -171,7 +179,12 @@ module _ {S : Type 0} where
       (λ (z : o ≡ 0). (
         v,
         unmoved k s r (number k f + 1) id cs v v at h (same_claim v v refl) (stays_more v v refl refl (λ x m. m)),
-        ((λ _. inl (z, refl)), (λ le. let a = hc.inside in absurd (omega arith))),
+        (
+          (λ _. inl (z, refl)),
+          (λ le. let a = hc.inside in absurd (omega arith)),
+          (λ _. let a = hc.inside in let q : o < c.offset = omega arith in q),
+          (λ _ some. absurd (some z)),
+        ),
         live,
       ))
       (λ (z : (n : ℕ) × (0 < o) × Has r.known (f, o, n)).
@@ -184,18 +197,21 @@ module _ {S : Type 0} where
       subst (λ (x : Key). o < x.size) (sym (h.key live)) q) in
       let ne : o ≢ c.offset = (λ e. ⊎_elim (λ (a : c.offset + c.len ≤ o). let p = hc.some in absurd (omega arith))
       (λ (b : o + z.0 ≤ c.offset). absurd (omega arith)) (hc.apart (f, o, z.0) z.2)) in
+      let alone = λ (sole : v.sole ≡ true). r.alone id v at sole in
+      let before = λ (sole : v.sole ≡ true). let b = (alone sole).behind c is (f, o, z.0) z.2 in let q : o < c.offset = omega arith in q in
+      let known = λ (sole : v.sole ≡ true) (some : ¬ (o ≡ 0)). (alone sole).seen (f, o, z.0) z.2 in
       dite (dec_lt o c.offset)
       (λ low. (
         seen,
         unmoved k s r (number k f + 1) id cs v seen at fits (same_claim v seen refl) (stays_more v seen refl refl (λ x m. inr m)),
-        ((λ _. inr (z.0, z.1, inside, refl)), (λ le. absurd (omega arith))),
+        ((λ _. inr (z.0, z.1, inside, refl)), (λ le. absurd (omega arith)), before, known),
         live,
       ))
       (λ high. (
         with_claim seen None,
         unmoved k s r (number k f + 1) id cs v (with_claim seen None) at (unclaim k r.known s.words seen fits)
             (no_claim v (with_claim seen None) refl) (stays_more v (with_claim seen None) refl refl (λ x m. inr m)),
-        ((λ l. absurd (high l)), (λ le. (let q : c.offset < o = omega arith in q, inside, (z.0, refl)))),
+        ((λ l. absurd (high l)), (λ le. (let q : c.offset < o = omega arith in q, inside, (z.0, refl))), before, known),
         live,
       )))
       (sees k s r f v lt h)
@@ -296,6 +312,7 @@ module _ {S : Type 0} where
             front = same0 ∙ q.front;
             seen = each_cons (λ (g : Place). IsAmong w.regions g.0 g.1) g0 r.known (region f c.offset c.len c.written, inl refl, refl, refl)
                 (λ g m. let x = q.seen g m in (x.0, inr x.1, x.2, x.3));
+            behind = λ d ed. absurd (none_some d ed);
           },
         ));
       }

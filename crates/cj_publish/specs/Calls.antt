@@ -1,5 +1,5 @@
 -- What each call does to a seat.
-use Rattle.std.specs.Prelude.{◌≡◌, ℕ, ◌+◌, ◌<◌, ◌≤◌, Some, None, List, [], length}
+use Rattle.std.specs.Prelude.{◌≡◌, ℕ, ◌+◌, ◌<◌, ◌≤◌, true, Some, None, List, [], length}
 use mathlib.Core.List.{IsPrefix}
 use Rattle.cj_publish.specs.declared.view.Claim.{Claim}
 use Rattle.cj_publish.specs.declared.view.Region.{Region}
@@ -11,7 +11,7 @@ use Rattle.cj_publish.specs.declared.publishing.Published.{Published}
 use Rattle.cj_publish.specs.declared.publishing.Published.TheVariants as how
 use Rattle.cj_publish.specs.Words.{Has, Each}
 use Rattle.cj_publish.specs.Rule.{IsVersion}
-pub use Rattle.cj_publish.specs.Seen.{SeenAt, ReadWhole}
+pub use Rattle.cj_publish.specs.Seen.{SeenAt, ReadWhole, SeesNoMore, SeesOneMore}
 use Rattle.cj_publish.specs.Views.{with_next, claiming, with_claim, filled}
 use Rattle.cj_publish.specs.Plays.{region}
 
@@ -50,14 +50,15 @@ IsOffset v o = (c : Claim) → v.claim ≡ Some c → o ≡ c.offset
 abbrev pub IsReady : View → Cell → Type 0
 IsReady v f = (c : Claim) × (v.claim ≡ Some c) × (length c.written ≡ c.len) × IsVersion v.key f c.written
 
--- the claim is gone: it is a region that the seat has seen, or a region of the cell at a greater offset was found
+-- The claim is gone: it is a region that the seat has seen, and a sole seat has seen nothing else that is new; or a region of the
+-- cell at a greater offset was found, which no sole seat finds.
 abbrev pub Publishes : View → Cell → Published → View → Type 0
 Publishes v f (how.Published o) w = (c : Claim) × (v.claim ≡ Some c) × (o ≡ c.offset) × Gains v w × (w.claim ≡ None)
-    × Has w.regions (region f c.offset c.len c.written)
+    × Has w.regions (region f c.offset c.len c.written) × (v.sole ≡ true → SeesOneMore v f o w)
 Publishes v f (how.Older mine found) w = (c : Claim) × (v.claim ≡ Some c) × (mine ≡ c.offset) × (mine < found) × Gains v w × (w.claim ≡ None)
-    × SeenAt w f found
+    × SeenAt w f found × ¬ (v.sole ≡ true)
 
--- each region that was seen is seen still, with no fewer words read
+-- each region that was seen is seen still, with no fewer words read, and no other one
 pub record Grows (v w : View) : Type 0 where
   pub live : w.live ≡ v.live
   pub sole : w.sole ≡ v.sole
@@ -70,3 +71,4 @@ pub record Grows (v w : View) : Type 0 where
   pub splits : w.splits ≡ v.splits
   pub regions : Each (λ (x : Region). (y : Region) × Has w.regions y × (y.cell ≡ x.cell) × (y.offset ≡ x.offset) × (y.len ≡ x.len)
       × IsPrefix x.read y.read) v.regions
+  pub no_more : SeesNoMore v w

@@ -32,10 +32,16 @@ claimed st m r m' =
 abbrev pub Sees : View → Cell → ℕ → View → Type 0
 Sees v f r w = ((r ≡ 0) × (w ≡ v)) ⊎ ((n : ℕ) × (0 < r) × (r < v.key.size) × (w ≡ with_region v (region f r n [])))
 
--- what publishing finds: nothing yet above the claim's offset, or a greater offset, which takes the claim away
+-- a sole seat finds nothing, or what it has seen already
+abbrev pub FindsSeen : View → Cell → ℕ → Type 0
+FindsSeen v f r = v.sole ≡ true → ¬ (r ≡ 0) → SeenAt v f r
+
+-- what publishing finds: nothing yet above the claim's offset, or a greater offset, which takes the claim away, and which a sole seat
+-- never finds
 abbrev pub Finds : View → ℕ → Cell → ℕ → View → Type 0
 Finds v mine f r w = (r < mine → Sees v f r w)
     × (mine ≤ r → (mine < r) × (r < v.key.size) × ((n : ℕ) × (w ≡ with_claim (with_region v (region f r n [])) None)))
+    × (v.sole ≡ true → r < mine) × FindsSeen v f r
 
 -- the step was made on the word of this slot
 pub record IsAt (k : Key) (at : ℕ) (f : Cell) : Type 0 where
@@ -62,7 +68,7 @@ wrote st m r m' = (m'.1 ≡ m.1) × ((c : Claim) → m.0.claim ≡ Some c → m'
 abbrev pub looked : {S : Type 0} → Step S → Me S View → ℕ → Me S View → Type 0
 looked st m r m' = (m'.1 ≡ m.1) × ((f : Cell) → IsAt m.0.key st.word f → NotOlder m.0 f r
     × ((u : View) × Sees m.0 f r u × (m'.0 ≡ with_look u (f, r)))) × IsReliable m'.0
-    × ((f : Cell) → IsAt m.0.key st.word f → m.0.sole ≡ true → ¬ (r ≡ 0) → SeenAt m.0 f r)
+    × ((f : Cell) → IsAt m.0.key st.word f → FindsSeen m.0 f r)
 
 -- each region whose next word to be read stands at this place takes it in
 abbrev pub take_in : ℕ → ℕ → Region → Region

@@ -75,12 +75,13 @@ abbrev pub ClaimsApart : List View → Type 0
 ClaimsApart views = (i j : ℕ) (v u : View) (c d : Claim) → i ≢ j → get_elem? views i ≡ some v → get_elem? views j ≡ some u → v.claim ≡ Some c
     → u.claim ≡ Some d → Apart c.offset c.len d.offset d.len
 
--- what holds while the seat is the only one that there ever was: only the words that it has claimed are claimed, and it has seen each
--- published region
+-- what holds while the seat is the only one that there ever was: only the words that it has claimed are claimed, it has seen each
+-- published region, and its claim lies behind them all
 pub record IsAlone (k : Key) (known : List Place) (ws : List ℕ) (seats : ℕ) (v : View) : Type 0 where
   pub one : seats ≡ 1
   pub front : slice_index ws 0 ≡ cells k + 1 + v.taken
   pub seen : Each (λ (g : Place). IsAmong v.regions g.0 g.1) known
+  pub behind : (c : Claim) → v.claim ≡ Some c → Each (λ (g : Place). g.1 + g.2 ≤ c.offset) known
 
 -- this holds of each view that is sole
 abbrev pub AreAlone : Key → List Place → List ℕ → List View → Type 0

@@ -8,7 +8,7 @@ ghost use Rattle.cj_draft.specs.Bodies.{HasNoAnchors};
 ghost use Rattle.cj_publish.specs.declared.view.View.{View};
 ghost use Rattle.cj_publish.specs.Cells.{IsCell};
 ghost use Rattle.cj_publish.specs.Views.{fresh, with_look};
-ghost use Rattle.cj_publish.specs.Seen.{SeenAt, NotOlder};
+ghost use Rattle.cj_publish.specs.Seen.{SeenAt, SeesNoMore, NotOlder};
 ghost use Rattle.cj_publish.specs.Plays.{Sees};
 ghost use Rattle.cj_publish.specs.Seats.{view_of, key_of, program_of, Belongs, IsSole, IsSame};
 ghost use Rattle.cj_publish.specs.Calls.{IsReady, Publishes, Grows};
@@ -48,6 +48,7 @@ impl CodeTable {
         ensures not_older { NotOlder (view_of seat.old) (main_of f) result }
         ensures seen { ¬ (result ≡ 0) → SeenAt (view_of seat.new) (main_of f) result }
         ensures known { IsSole seat.old → ¬ (result ≡ 0) → SeenAt (view_of seat.old) (main_of f) result }
+        ensures no_more { IsSole seat.old → SeesNoMore (view_of seat.old) (view_of seat.new) }
         ensures learns { Learns (view_of seat.old) (view_of seat.new) }
         ensures looked { (u : View) × Sees (view_of seat.old) (main_of f) result u × (view_of seat.new ≡ with_look u (main_of f, result)) }
     {

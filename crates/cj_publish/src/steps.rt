@@ -4,7 +4,7 @@ ghost use Rattle.std.specs.Prelude.{◌≡◌, ◌+◌, ◌*◌, ◌<◌, ◌≤
 ghost use Rattle.cj_publish.specs.declared.view.View.{View};
 ghost use Rattle.cj_publish.specs.Cells.{number, IsCell};
 ghost use Rattle.cj_publish.specs.Views.{fresh, shared, given, joined_view, with_look};
-ghost use Rattle.cj_publish.specs.Seen.{SeenAt, NotOlder};
+ghost use Rattle.cj_publish.specs.Seen.{SeenAt, SeesNoMore, NotOlder};
 ghost use Rattle.cj_publish.specs.Plays.{Sees};
 ghost use Rattle.cj_publish.specs.Learns.{Learns};
 ghost use Rattle.cj_publish.specs.Seats.{view_of, key_of, program_of, IsSeatOf, Belongs, IsSole, IsSame, HasRoom, Writes};
@@ -134,6 +134,7 @@ impl CodeTable {
         ensures not_older { NotOlder (view_of seat.old) cell result }
         ensures seen { ¬ (result ≡ 0) → SeenAt (view_of seat.new) cell result }
         ensures known { IsSole seat.old → ¬ (result ≡ 0) → SeenAt (view_of seat.old) cell result }
+        ensures no_more { IsSole seat.old → SeesNoMore (view_of seat.old) (view_of seat.new) }
         ensures learns { Learns (view_of seat.old) (view_of seat.new) }
         ensures looked { (u : View) × Sees (view_of seat.old) cell result u × (view_of seat.new ≡ with_look u (cell, result)) }
     {

@@ -14,7 +14,7 @@ use Rattle.cj_publish.specs.declared.view.View.{View}
 use Rattle.cj_publish.specs.Reliable.{IsReliable}
 use Rattle.cj_parts.specs.PartsLaws.{parts_push, learns_twice}
 use Rattle.cj_parts.specs.Known.{known_codes}
-use Rattle.cj_parts.specs.Looks.{IsAbove, IsNotOlder, looks_of}
+use Rattle.cj_parts.specs.Looks.{IsAbove, IsNewest, IsNotOlder, looks_of}
 use Rattle.cj_parts.specs.Calls.{IsV, Ran}
 use Rattle.cj_parts.proofs.Known.{codes_grow}
 use Rattle.cj_parts.proofs.Growth.{v_grows, zip_push}
@@ -27,59 +27,65 @@ use Rattle.cj_notes.proofs.Standing.{notes_push}
 use Rattle.cj_records.specs.Notes.{published, published_by}
 use Rattle.cj_records.specs.Setups.{AreWarm}
 use Rattle.cj_records.specs.Items.{Item, OfCall, OfWork, IsPart, ReadsInParts, setup_items}
-use Rattle.cj_records.specs.Versions.{Round, round_items, LooksAbove, AloneShows}
+use Rattle.cj_records.specs.Loops.{WorkedAlone, RoundsShow}
+use Rattle.cj_records.specs.Versions.{Round, round_items, LooksNewest}
 use Rattle.cj_records.proofs.Growth.{in_parts_grows, part_grows, are_v_grow}
-use Rattle.cj_records.proofs.Published.{published_append, all_known, above_published}
+use Rattle.cj_records.proofs.Published.{published_append, all_known, above_published, alone_later, alone_looked, newest_found}
 
 items_push : (rounds : List Round) (r : Round) → round_items (rounds ++ r ∷ []) ≡ (round_items rounds ++ OfCall r.call r.report ∷ []) ++ OfWork r.note ∷ []
 unfolding round_items
 items_push [] r = refl
 items_push (x ∷ xs) r = ap (λ (y : List Item). OfCall x.call x.report ∷ OfWork x.note ∷ y) (items_push xs r)
 
-above_push : (floor : List Look) (rounds : List Round) (r : Round) → LooksAbove floor rounds →
-    All (IsAbove (floor ++ published_by (map (λ (x : Round). x.note) rounds))) r.report.looks → LooksAbove floor (rounds ++ r ∷ [])
+newest_push : (floor : List Look) (rounds : List Round) (r : Round) → LooksNewest floor rounds →
+    All (IsNewest (floor ++ published_by (map (λ (x : Round). x.note) rounds))) r.report.looks → LooksNewest floor (rounds ++ r ∷ [])
 unfolding published_by
-above_push floor [] r h a = (subst (λ (l : List Look). All (IsAbove l) r.report.looks) (append-nil floor) a, tt)
-above_push floor (x ∷ xs) r h a = (
+newest_push floor [] r h a = (subst (λ (l : List Look). All (IsNewest l) r.report.looks) (append-nil floor) a, tt)
+newest_push floor (x ∷ xs) r h a = (
   h.0,
-  above_push (floor ++ published x.note) xs r h.1
-      (subst (λ (l : List Look). All (IsAbove l) r.report.looks)
+  newest_push (floor ++ published x.note) xs r h.1
+      (subst (λ (l : List Look). All (IsNewest l) r.report.looks)
       (sym (append_assoc floor (published x.note) (published_by (map (λ (y : Round). y.note) xs)))) a),
 )
 
 module _ (P : Program) (setups : List Setup) where
   -- before the first call
   pub alone_none : (warm : List WorkNote) (v : View) (reads : List Read) → IsReliable v → AreWarm setups warm → NotesStand P v warm → v.lookups ≡ [] →
-      ReadsInParts P no_codes (setup_items setups warm) reads → AloneShows P setups [] [] warm v reads
+      ReadsInParts P no_codes (setup_items setups warm) reads → WorkedAlone v warm → RoundsShow P setups [] [] warm v reads
   unfolding looks_of round_items no_codes
-  alone_none warm v reads ok are_warm notes none parts =
+  alone_none warm v reads ok are_warm notes none parts alone =
       let empty : Grows no_codes (known_codes v) = λ f o c e. absurd cc in
       record {
-        warm = warm;
-        rounds = [];
-        are_calls = refl;
-        are_reports = refl;
-        are_notes = sym (append-nil warm);
-        are_warm = are_warm;
-        notes = notes;
-        above = tt;
-        lookups = none;
-        rises = looks_never_fall v [] ok none;
-        in_parts = subst (λ (is : List Item). ReadsInParts P (known_codes v) is reads) (sym (append-nil (setup_items setups warm)))
-            (in_parts_grows P no_codes (known_codes v) empty (setup_items setups warm) reads parts);
-        versions = tt;
-        knows = all_known P v ok notes.noted notes.causes;
+        alone = alone;
+        shows = record {
+          warm = warm;
+          rounds = [];
+          are_calls = refl;
+          are_reports = refl;
+          are_notes = sym (append-nil warm);
+          are_warm = are_warm;
+          notes = notes;
+          in_time = alone.in_time;
+          newest = tt;
+          lookups = none;
+          rises = looks_never_fall v [] ok none;
+          in_parts = subst (λ (is : List Item). ReadsInParts P (known_codes v) is reads) (sym (append-nil (setup_items setups warm)))
+              (in_parts_grows P no_codes (known_codes v) empty (setup_items setups warm) reads parts);
+          versions = tt;
+          knows = all_known P v ok notes.noted notes.causes;
+        };
       }
 
   -- a call and its work more
   pub alone_push : (calls : List Begun) (reports : List Report) (work : List WorkNote) (a b c : View) (first second third : List Read) (call : Begun)
       (r : Report) (note : WorkNote)
-      → AloneShows P setups calls reports work a first
+      → RoundsShow P setups calls reports work a first
       → Ran P call r a b first second
       → WorkedOne P note b c second third
       → IsReliable c
-      → AloneShows P setups (calls ++ call ∷ []) (reports ++ r ∷ []) (work ++ note ∷ []) c third
-  alone_push calls reports work a b c first second third call r note h ran worked ok =
+      → RoundsShow P setups (calls ++ call ∷ []) (reports ++ r ∷ []) (work ++ note ∷ []) c third
+  alone_push calls reports work a b c first second third call r note shown ran worked ok =
+      let h = shown.shows in
       let round : Round = record { call = call; report = r; note = note } in
       let n : Noted = record { note = note; code = worked.code } in
       let w = worked.works in
@@ -100,24 +106,31 @@ module _ (P : Program) (setups : List Setup) where
       let all : (first ++ ran.reads.0) ++ worked.reads.0 ≡ third = ap (λ (x : List Read). x ++ worked.reads.0) (sym ran.reads.2) ∙ sym worked.reads.2 in
       let seen : All (IsAbove (published_by work)) r.looks = All-weaker (IsNotOlder a) (IsAbove (published_by work))
       (λ (look : Look) (o : IsNotOlder a look). above_published P a look o work h.notes) r.looks ran.floor in
+      let finds = ran.alone shown.alone.sole in
+      let newest : All (IsNewest (published_by work)) r.looks = newest_found a work r.looks shown.alone.seen seen finds.found in
+      let alone : WorkedAlone c (work ++ note ∷ []) = alone_later b c work note (alone_looked a b work r.looks shown.alone finds) w.alone in
       let noted = notes_push P 0 a c work g h.notes n w.cause (w.taken ∙ ap (λ (t : ℕ). t + claimed_by n) ran.taken) in
       record {
-        warm = h.warm;
-        rounds = h.rounds ++ round ∷ [];
-        are_calls = map_push (λ (x : Round). x.call) h.rounds round ∙ ap (λ (l : List Begun). l ++ call ∷ []) h.are_calls;
-        are_reports = map_push (λ (x : Round). x.report) h.rounds round ∙ ap (λ (l : List Report). l ++ r ∷ []) h.are_reports;
-        are_notes = ap (λ (l : List WorkNote). l ++ note ∷ []) h.are_notes ∙ append_assoc h.warm (map (λ (x : Round). x.note) h.rounds) (note ∷ [])
-            ∙ ap (λ (l : List WorkNote). h.warm ++ l) (sym (map_push (λ (x : Round). x.note) h.rounds round));
-        are_warm = h.are_warm;
-        notes = noted;
-        above = above_push (published_by h.warm) h.rounds round h.above
-            (subst (λ (l : List Look). All (IsAbove l) r.looks) (ap published_by h.are_notes ∙ published_append h.warm (map (λ (x : Round). x.note) h.rounds))
-            seen);
-        lookups = lookups;
-        rises = looks_never_fall c (looks_of (reports ++ r ∷ [])) ok lookups;
-        in_parts = subst (λ (is : List Item). ReadsInParts P (known_codes c) is third) its
-            (subst (λ (l : List Read). ReadsInParts P (known_codes c) ((items ++ OfCall call r ∷ []) ++ OfWork note ∷ []) l) all two);
-        versions = zip_push (IsV P (known_codes c)) calls reports call r (are_v_grow P (known_codes a) (known_codes c) before calls reports h.versions)
-            (v_grows P (known_codes b) (known_codes c) since call r ran.reads.1.run);
-        knows = all_known P c ok noted.noted noted.causes;
+        alone = alone;
+        shows = record {
+          warm = h.warm;
+          rounds = h.rounds ++ round ∷ [];
+          are_calls = map_push (λ (x : Round). x.call) h.rounds round ∙ ap (λ (l : List Begun). l ++ call ∷ []) h.are_calls;
+          are_reports = map_push (λ (x : Round). x.report) h.rounds round ∙ ap (λ (l : List Report). l ++ r ∷ []) h.are_reports;
+          are_notes = ap (λ (l : List WorkNote). l ++ note ∷ []) h.are_notes ∙ append_assoc h.warm (map (λ (x : Round). x.note) h.rounds) (note ∷ [])
+              ∙ ap (λ (l : List WorkNote). h.warm ++ l) (sym (map_push (λ (x : Round). x.note) h.rounds round));
+          are_warm = h.are_warm;
+          notes = noted;
+          in_time = alone.in_time;
+          newest = newest_push (published_by h.warm) h.rounds round h.newest
+              (subst (λ (l : List Look). All (IsNewest l) r.looks) (ap published_by h.are_notes ∙ published_append h.warm (map (λ (x : Round). x.note) h.rounds))
+              newest);
+          lookups = lookups;
+          rises = looks_never_fall c (looks_of (reports ++ r ∷ [])) ok lookups;
+          in_parts = subst (λ (is : List Item). ReadsInParts P (known_codes c) is third) its
+              (subst (λ (l : List Read). ReadsInParts P (known_codes c) ((items ++ OfCall call r ∷ []) ++ OfWork note ∷ []) l) all two);
+          versions = zip_push (IsV P (known_codes c)) calls reports call r (are_v_grow P (known_codes a) (known_codes c) before calls reports h.versions)
+              (v_grows P (known_codes b) (known_codes c) since call r ran.reads.1.run);
+          knows = all_known P c ok noted.noted noted.causes;
+        };
       }

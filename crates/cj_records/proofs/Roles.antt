@@ -34,8 +34,9 @@ use Rattle.cj_notes.proofs.Standing.{notes_none, notes_push}
 use Rattle.cj_records.specs.Setups.{SetupPart, warm_lines}
 use Rattle.cj_records.specs.Items.{Item, OfSetup, OfWarm, OfCall, IsPart, ReadsInParts}
 use Rattle.cj_records.specs.Records.{Caller, Worker, Answered, call_items, CallerRecord, WorkerRecord}
-use Rattle.cj_records.specs.Loops.{Prepared, IsSeen, CallsMade}
+use Rattle.cj_records.specs.Loops.{WorkedAlone, Prepared, IsSeen, CallsMade}
 use Rattle.cj_records.proofs.Growth.{in_parts_grows}
+use Rattle.cj_records.proofs.Published.{alone_later}
 
 -- ---- setups
 
@@ -58,14 +59,15 @@ module _ (P : Program) where
       (parts_push (IsPart P no_codes) (map OfSetup setups) (OfSetup s) reads part h p)
 
   -- no `warm` line yet
-  pub prepared_none : (setups : List Setup) (v : View) (reads : List Read) → v.taken ≡ 0 → v.lookups ≡ [] → HintsSet setups reads
+  pub prepared_none : (setups : List Setup) (v : View) (reads : List Read) → v.taken ≡ 0 → v.lookups ≡ [] → WorkedAlone v [] → HintsSet setups reads
       → Prepared P setups [] [] v reads
   unfolding warm_lines
-  prepared_none setups v reads none looks h = record {
+  prepared_none setups v reads none looks alone h = record {
     are_warm = tt;
     notes = notes_none P 0 v none;
     lookups = looks;
     in_parts = subst (λ (is : List Item). ReadsInParts P no_codes is reads) (sym (append-nil (map OfSetup setups))) h;
+    alone = alone;
   }
 
   module _ (setups begun : List Setup) (warm : List WorkNote) (v : View) (old : List Read) (h : Prepared P setups begun warm v old) where
@@ -90,6 +92,7 @@ module _ (P : Program) where
           in_parts =
               subst (λ (is : List Item). ReadsInParts P no_codes is new) same
               (subst (λ (l : List Read). ReadsInParts P no_codes (items ++ OfWarm note ∷ []) l) (sym made.reads.2) parts);
+          alone = alone_later v w warm note h.alone made.works.alone;
         }
 
     -- a hint needs no work
@@ -101,6 +104,7 @@ module _ (P : Program) where
       notes = h.notes;
       lookups = h.lookups;
       in_parts = h.in_parts;
+      alone = h.alone;
     }
 
 -- ---- a caller

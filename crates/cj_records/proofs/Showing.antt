@@ -28,14 +28,14 @@ use Rattle.cj_profile.specs.Seats as counts
 use Rattle.cj_plan.specs.Plan.{guard_of, is_cold}
 use Rattle.cj_publish.specs.declared.view.Cell.{Cell}
 use Rattle.cj_publish.specs.Seats.{view_of}
-use Rattle.cj_parts.specs.Looks.{looked, looks_of, NeverFall, IsAbove}
+use Rattle.cj_parts.specs.Looks.{looked, looks_of, NeverFall, IsAbove, IsNewest}
 use Rattle.cj_notes.specs.declared.notes.WorkNote.{WorkNote}
 use Rattle.cj_notes.specs.declared.notes.WorkNote.TheVariants.{Published}
 use Rattle.cj_records.specs.declared.store.Store.{Store}
 use Rattle.cj_records.specs.Notes.{published, published_by, IsKnown}
 use Rattle.cj_records.specs.Setups.{SetupPart}
 use Rattle.cj_records.specs.Records.{Role, Caller, Worker, Done, CallerRecord, WorkerRecord, RoleRecord, IsRecord}
-use Rattle.cj_records.specs.Versions.{IsWholeStore, Round, LooksAbove, RolesStand}
+use Rattle.cj_records.specs.Versions.{IsWholeStore, Round, LooksNewest, RolesStand}
 
 -- ---- setups
 
@@ -72,13 +72,13 @@ cold_is_heeded f label edge rs m n h =
 
 -- ---- looks
 
-pub above_at : (floor : List Look) (before : List Round) (r : Round) (after : List Round) → LooksAbove floor (before ++ r ∷ after)
-    → All (IsAbove (floor ++ published_by (map (λ (x : Round). x.note) before))) r.report.looks
+pub newest_at : (floor : List Look) (before : List Round) (r : Round) (after : List Round) → LooksNewest floor (before ++ r ∷ after)
+    → All (IsNewest (floor ++ published_by (map (λ (x : Round). x.note) before))) r.report.looks
 unfolding published_by
-above_at floor [] r after h = subst (λ (l : List Look). All (IsAbove l) r.report.looks) (sym (append-nil floor)) h.0
-above_at floor (x ∷ before) r after h =
-    subst (λ (l : List Look). All (IsAbove l) r.report.looks) (append_assoc floor (published x.note) (published_by (map (λ (y : Round). y.note) before)))
-    (above_at (floor ++ published x.note) before r after h.1)
+newest_at floor [] r after h = subst (λ (l : List Look). All (IsNewest l) r.report.looks) (sym (append-nil floor)) h.0
+newest_at floor (x ∷ before) r after h =
+    subst (λ (l : List Look). All (IsNewest l) r.report.looks) (append_assoc floor (published x.note) (published_by (map (λ (y : Round). y.note) before)))
+    (newest_at (floor ++ published x.note) before r after h.1)
 
 -- a role has looked up what its reports tell
 looks_are : (P : Program) (codes : Codes) (role : Role) (d : Done) → RoleRecord P codes role d → d.looks ≡ looks_of d.reports

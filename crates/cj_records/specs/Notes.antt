@@ -1,5 +1,5 @@
 -- Where the notes of a run published, and which code stands there.
-use Rattle.std.specs.Prelude.{◌≡◌, List, [], ◌∷◌, ◌++◌, All}
+use Rattle.std.specs.Prelude.{◌≡◌, List, [], ◌∷◌, ◌++◌, All, ⊤}
 use Rattle.cj_calls.specs.declared.report.Look.{Look}
 use Rattle.cj_machine.specs.Versions.{Codes}
 use Rattle.cj_notes.specs.declared.notes.WorkNote.{WorkNote}
@@ -18,6 +18,15 @@ published (Taken f found) = []
 unfoldable pub published_by : List WorkNote → List Look
 published_by [] = []
 published_by (n ∷ ns) = published n ++ published_by ns
+
+-- the note tells of no version that came too late
+abbrev pub IsInTime : WorkNote → Type 0
+IsInTime (Published f level offset snapshot skipped) = ⊤
+IsInTime (Older f level mine found snapshot) = ⊥
+IsInTime (Full f level next need snapshot) = ⊤
+IsInTime (TooLarge f level len snapshot) = ⊤
+IsInTime NoneAsked = ⊤
+IsInTime (Taken f found) = ⊤
 
 -- where the note published, the map has the note's code
 abbrev pub IsKnown : Codes → Noted → Type 0

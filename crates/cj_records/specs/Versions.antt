@@ -16,12 +16,12 @@ use Rattle.cj_publish.specs.declared.view.View.{View}
 use Rattle.cj_publish.specs.declared.seats.CodeSeat.{CodeSeat}
 use Rattle.cj_publish.specs.Seats.{view_of, key_of, program_of, Belongs}
 use Rattle.cj_parts.specs.Known.{known_codes}
-use Rattle.cj_parts.specs.Looks.{looked, looks_of, NeverFall, IsAbove}
+use Rattle.cj_parts.specs.Looks.{looked, looks_of, NeverFall, IsNewest}
 use Rattle.cj_parts.specs.Calls.{Stands, IsV}
 use Rattle.cj_notes.specs.declared.notes.WorkNote.{WorkNote}
 use Rattle.cj_notes.specs.Standing.{NotesStand}
 use Rattle.cj_records.specs.declared.store.Store.{Store}
-use Rattle.cj_records.specs.Notes.{published, published_by, IsKnown}
+use Rattle.cj_records.specs.Notes.{published, published_by, IsInTime, IsKnown}
 use Rattle.cj_records.specs.Setups.{AreWarm}
 use Rattle.cj_records.specs.Items.{Item, OfCall, OfWork, ReadsInParts, setup_items}
 use Rattle.cj_records.specs.Records.{Role, Caller, Worker, Done, IsRecord, IsBacked, IsOver}
@@ -78,10 +78,10 @@ unfoldable pub round_items : List Round → List Item
 round_items [] = []
 round_items (r ∷ rs) = OfCall r.call r.report ∷ OfWork r.note ∷ round_items rs
 
--- each look is at least what was published before its call
-abbrev pub LooksAbove : List Look → List Round → Type 0
-LooksAbove floor [] = Unit {0}
-LooksAbove floor (r ∷ rs) = All (IsAbove floor) r.report.looks × LooksAbove (floor ++ published r.note) rs
+-- each look finds the newest version that was published before its call
+abbrev pub LooksNewest : List Look → List Round → Type 0
+LooksNewest floor [] = Unit {0}
+LooksNewest floor (r ∷ rs) = All (IsNewest floor) r.report.looks × LooksNewest (floor ++ published r.note) rs
 
 -- what the two seats of such a run show
 pub record AloneShows (P : Program) (setups : List Setup) (calls : List Begun) (reports : List Report) (work : List WorkNote) (v : View)
@@ -90,12 +90,13 @@ pub record AloneShows (P : Program) (setups : List Setup) (calls : List Begun) (
   pub rounds : List Round
   pub are_calls : map (λ (r : Round). r.call) rounds ≡ calls
   pub are_reports : map (λ (r : Round). r.report) rounds ≡ reports
-  -- the notes: those of the `warm` lines and then one for each call, each with its cause
+  -- the notes: those of the `warm` lines and then one for each call, each with its cause, and no version came too late
   pub are_notes : work ≡ warm ++ map (λ (r : Round). r.note) rounds
   pub are_warm : AreWarm setups warm
   pub notes : NotesStand P v work
-  -- the lookups are the looks of the reports, never older than what was published, and the reads are in parts
-  pub above : LooksAbove (published_by warm) rounds
+  pub in_time : All IsInTime work
+  -- the lookups are the looks of the reports, which find the newest that was published, and the reads are in parts
+  pub newest : LooksNewest (published_by warm) rounds
   pub lookups : v.lookups ≡ map looked (looks_of reports)
   pub rises : NeverFall (looks_of reports)
   pub in_parts : ReadsInParts P (known_codes v) (setup_items setups warm ++ round_items rounds) reads

@@ -24,14 +24,14 @@ ghost use Rattle.cj_profile.specs.Starts.{left_in};
 ghost use Rattle.cj_profile.specs.Seats as counts;
 ghost use Rattle.cj_plan.specs.Plan.{guard_of, is_cold};
 ghost use Rattle.cj_publish.specs.Seats.{view_of};
-ghost use Rattle.cj_parts.specs.Looks.{looked, looks_of, NeverFall, IsAbove};
+ghost use Rattle.cj_parts.specs.Looks.{looked, looks_of, NeverFall, IsAbove, IsNewest};
 ghost use Rattle.cj_notes.specs.declared.notes.WorkNote.{WorkNote};
 ghost use Rattle.cj_notes.specs.declared.notes.WorkNote.TheVariants.{Published};
 ghost use Rattle.cj_records.specs.declared.store.Store.{Store};
 ghost use Rattle.cj_records.specs.Notes.{published_by, IsKnown};
 ghost use Rattle.cj_records.specs.Setups.{SetupPart};
 ghost use Rattle.cj_records.specs.Records.{Caller, Worker, Done, RoleRecord};
-ghost use Rattle.cj_records.specs.Versions.{IsWholeStore, Round, LooksAbove, RolesStand};
+ghost use Rattle.cj_records.specs.Versions.{IsWholeStore, Round, LooksNewest, RolesStand};
 
 /// A `guess` leaves the value in its word, and as many agreements as a plan asks for, so that it is guarded.
 pub fn guess_is_guarded()
@@ -46,10 +46,10 @@ pub fn cold_is_heeded()
         is_cold (left_in (number (word.Way f label edge)) m rs) (left_in (number (word.Way f label (other_edge edge))) n rs) ≡ true }
 {}
 
-/// On one thread a call looks up nothing older than what any work before it has published.
-pub fn looks_are_above_what_was_published()
-    ensures { (floor : List Look) (before : List Round) (r : Round) (after : List Round) → LooksAbove floor (before ++ r ∷ after) →
-        All (IsAbove (floor ++ published_by (map (λ (x : Round). x.note) before))) r.report.looks }
+/// On one thread a call finds the newest version that any work before it has published, or none where there is none.
+pub fn looks_find_the_newest_that_was_published()
+    ensures { (floor : List Look) (before : List Round) (r : Round) (after : List Round) → LooksNewest floor (before ++ r ∷ after) →
+        All (IsNewest (floor ++ published_by (map (λ (x : Round). x.note) before))) r.report.looks }
 {}
 
 /// The lookups of the seats that were joined are the looks of the reports, caller by caller. Workers have looked nothing up.

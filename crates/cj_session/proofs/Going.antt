@@ -18,6 +18,8 @@ use Rattle.cj_publish.specs.Fetched.{main_of}
 use Rattle.cj_parts.specs.Parts.{MarkPart}
 use Rattle.cj_parts.specs.PartsLaws.{one_part}
 use Rattle.cj_parts.specs.Looks.{IsNotOlder}
+use Rattle.cj_parts.specs.Calls.{FindsNothingNew}
+use Rattle.cj_parts.proofs.Finding.{finds_none, finds_one}
 use Rattle.cj_session.specs.declared.session.Session.{Session}
 use Rattle.cj_session.specs.Versions.{Entry, IsWholeIn, codes_in, EntriesKnown}
 use Rattle.cj_session.specs.Sessions.{view_in, entered_in, trail_of, look_of, Looks, LooksUp, Stays, Went}
@@ -32,6 +34,7 @@ went_by a b m none same h = record {
   once = sym none;
   trail = ap (λ (v : View). v.lookups) same ∙ sym (append-nil (view_in a).lookups);
   floor = All-nil (IsNotOlder (view_in a));
+  alone = λ sole. subst (FindsNothingNew [] (view_in a)) (sym same) (finds_none (view_in a) sole);
   part = h.0;
   in_parts = one_part MarkPart m h.0 h.1;
   reads = h.2;
@@ -46,6 +49,7 @@ went_in a b f args offset looks look h = record {
   once = refl;
   trail = look.0;
   floor = All-push (IsNotOlder (view_in a)) [] (record { function = f; offset = offset }) (All-nil (IsNotOlder (view_in a))) look.1;
+  alone = λ sole. finds_one (view_in a) (view_in b) (record { function = f; offset = offset }) (looks.alone sole) sole look.2;
   part = h.0;
   in_parts = one_part MarkPart (Entered f args) h.0 h.1;
   reads = h.2;
@@ -80,7 +84,7 @@ told_found a b f args (Err e) look went = inr (record {
 -- ---- what stays
 
 pub looks_nothing : (v : View) → Looks v v
-looks_nothing v = record { learns = learns_nothing v; claim = refl; taken = refl; joined = refl }
+looks_nothing v = record { learns = learns_nothing v; claim = refl; taken = refl; joined = refl; alone = λ sole. finds_none v sole }
 
 -- the tables and the seats are the same, and the session has gone through these marks
 pub stays_by : (a b : Session) (marks : List Mark) → b.checked.now ≡ a.checked.now → b.table.now ≡ a.table.now → b.profile.now ≡ a.profile.now

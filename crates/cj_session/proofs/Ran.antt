@@ -20,7 +20,7 @@ use Rattle.cj_parts.specs.Parts.{InParts, MarkPart}
 use Rattle.std.proofs.lemmas.List.{map-append, append_cancel_left}
 use Rattle.cj_parts.specs.Known.{known_codes}
 use Rattle.cj_parts.specs.Looks.{looked, IsNotOlder}
-use Rattle.cj_parts.specs.Calls.{Stands, Ran, RanOut}
+use Rattle.cj_parts.specs.Calls.{Stands, FindsNothingNew, Ran, RanOut}
 use Rattle.cj_parts.proofs.Growth.{marks_grow, v_grows}
 
 looked_back : (looks : List Look) → map look_of (map looked looks) ≡ looks
@@ -50,6 +50,7 @@ module _ (call : Begun) (a b : Session) where
         joined = stays.joined;
         trail = w.trail ∙ ap (λ (l : List Look). (view_in a).lookups ++ map looked l) looks;
         floor = subst (All (IsNotOlder (view_in a))) looks w.floor;
+        alone = λ sole. subst (λ (l : List Look). FindsNothingNew l (view_in a) (view_in b)) looks (w.alone sole);
         stands = stands;
         reads = (
           w.part,
@@ -77,6 +78,7 @@ module _ (call : Begun) (a b : Session) where
         looks = once.more;
         trail = w.trail ∙ ap (λ (l : List Look). (view_in a).lookups ++ map looked l) looks;
         floor = subst (All (IsNotOlder (view_in a))) looks w.floor;
+        alone = λ sole. subst (λ (l : List Look). FindsNothingNew l (view_in a) (view_in b)) looks (w.alone sole);
         reads = (
           w.part,
           stopped_by P (λ ms. ms ≡ once.marks) (λ ms. InParts MarkPart ms w.part) known [] once.more call (λ ms e. subst (λ (xs : List Mark). InParts MarkPart xs w.part) (sym e) w.in_parts) once.rest,

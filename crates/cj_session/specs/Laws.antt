@@ -15,6 +15,7 @@ use Rattle.cj_publish.specs.Learns.{Learns, learns_nothing, learns_twice}
 use Rattle.cj_parts.specs.Parts.{MarkPart}
 use Rattle.cj_parts.specs.PartsLaws.{parts_append}
 use Rattle.cj_parts.specs.Looks.{looked, IsNotOlder}
+use Rattle.cj_parts.proofs.Finding.{finds_none, finds_twice}
 use Rattle.cj_session.specs.declared.session.Session.{Session}
 use Rattle.cj_session.specs.Sessions.{codes_of, view_in, reads_in, entered_in, IsReady, Stays, Went}
 
@@ -35,6 +36,7 @@ went_nowhere s = record {
   once = refl;
   trail = sym (append-nil (view_in s).lookups);
   floor = All-nil (IsNotOlder (view_in s));
+  alone = λ sole. finds_none (view_in s) sole;
   part = [];
   in_parts = refl;
   reads = sym (append-nil (reads_in s));
@@ -52,6 +54,7 @@ went_on a b c ms ns h k = record {
   trail = k.trail ∙ (ap (λ l. l ++ map looked k.looks) h.trail ∙ append_assoc (view_in a).lookups (map looked h.looks) (map looked k.looks) ∙ ap (λ l. (view_in a).lookups ++ l) (sym (map-append looked h.looks k.looks)));
   floor = All-append (IsNotOlder (view_in a)) h.looks k.looks h.floor
       (All-weaker (IsNotOlder (view_in b)) (IsNotOlder (view_in a)) (older_before (view_in a) (view_in b) h.learns) k.looks k.floor);
+  alone = λ sole. let first = h.alone sole in finds_twice h.looks k.looks (view_in a) (view_in b) (view_in c) first (k.alone first.sole);
   part = h.part ++ k.part;
   in_parts = parts_append MarkPart ms ns h.part k.part h.in_parts k.in_parts;
   reads = k.reads ∙ (ap (λ l. l ++ k.part) h.reads ∙ append_assoc (reads_in a) h.part k.part);

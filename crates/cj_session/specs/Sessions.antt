@@ -1,5 +1,5 @@
 -- What a session keeps, and what its calls do to its seats.
-use Rattle.std.specs.Prelude.{◌≡◌, ℕ, List, [], ◌∷◌, ◌++◌, map, All, None}
+use Rattle.std.specs.Prelude.{◌≡◌, ℕ, true, List, [], ◌∷◌, ◌++◌, map, All, None}
 use Rattle.cj_ir.specs.declared.language.FunId.{FunId}
 use Rattle.cj_calls.specs.declared.report.Look.{Look}
 use Rattle.cj_machine.specs.Versions.{Codes}
@@ -9,11 +9,12 @@ use Rattle.cj_profile.specs.declared.view.Read.{Read}
 use Rattle.cj_publish.specs.declared.view.Cell.{Cell}
 use Rattle.cj_publish.specs.declared.view.View.{View}
 use Rattle.cj_publish.specs.Seats.{view_of, key_of, program_of, Belongs, IsSame}
-use Rattle.cj_publish.specs.Plays.{NotOlder}
+use Rattle.cj_publish.specs.Plays.{NotOlder, FindsSeen}
 use Rattle.cj_publish.specs.Fetched.{main_of}
 use Rattle.cj_publish.specs.Learns.{Learns}
 use Rattle.cj_parts.specs.Parts.{InParts, MarkPart}
 use Rattle.cj_parts.specs.Looks.{looked, IsNotOlder}
+use Rattle.cj_parts.specs.Calls.{FindsNothingNew}
 use Rattle.cj_session.specs.declared.session.Session.{Session}
 use Rattle.cj_session.specs.Versions.{codes_in, AreKnown}
 
@@ -44,16 +45,17 @@ pub record IsReady (s : Session) : Type 0 where
   pub counted : counts.program_of s.profile.now ≡ s.checked.now
   pub known : AreKnown s.checked.now (view_in s) s.versions
 
--- a lookup does no more to a view than that
+-- a lookup does no more to a view than that, and the only seat that there ever was sees nothing new
 pub record Looks (v w : View) : Type 0 where
   pub learns : Learns v w
   pub claim : w.claim ≡ v.claim
   pub taken : w.taken ≡ v.taken
   pub joined : w.joined ≡ v.joined
+  pub alone : v.sole ≡ true → FindsNothingNew [] v w
 
--- one lookup more, no older than what was seen before
+-- one lookup more, no older than what was seen before; the only seat finds nothing, or what it had seen
 abbrev pub LooksUp : FunId → ℕ → View → View → Type 0
-LooksUp f offset v w = (w.lookups ≡ v.lookups ++ (main_of f, offset) ∷ []) × NotOlder v (main_of f) offset
+LooksUp f offset v w = (w.lookups ≡ v.lookups ++ (main_of f, offset) ∷ []) × NotOlder v (main_of f) offset × FindsSeen v (main_of f) offset
 
 -- the functions that were entered
 unfoldable pub entered_in : List Mark → List FunId
@@ -63,13 +65,15 @@ entered_in (Branched f label edge ∷ marks) = entered_in marks
 entered_in (FailedIn f ∷ marks) = entered_in marks
 
 -- Between these states the session went through exactly these marks: it looked each function that was entered up once, no
--- lookup was older than what the first state had seen, and the steps on the profile are in parts over the marks.
+-- lookup was older than what the first state had seen, and the steps on the profile are in parts over the marks. The only seat
+-- that there ever was found nothing new.
 pub record Went (a b : Session) (marks : List Mark) : Type 0 where
   pub learns : Learns (view_in a) (view_in b)
   pub looks : List Look
   pub once : map (λ (look : Look). look.function) looks ≡ entered_in marks
   pub trail : (view_in b).lookups ≡ (view_in a).lookups ++ map looked looks
   pub floor : All (IsNotOlder (view_in a)) looks
+  pub alone : (view_in a).sole ≡ true → FindsNothingNew looks (view_in a) (view_in b)
   pub part : List Read
   pub in_parts : InParts MarkPart marks part
   pub reads : reads_in b ≡ reads_in a ++ part

@@ -2,7 +2,7 @@ use Rattle.std.proofs.Common.{rules, sym, subst, arith}
 use Rattle.cj_publish.specs.declared.view.Key.{Key}
 use Rattle.cj_publish.specs.Plays.{IsAt}
 use Rattle.cj_publish.proofs.Looks.{looks}
-use Rattle.cj_publish.proofs.Learning.{sees_learns, sees_seen}
+use Rattle.cj_publish.proofs.Learning.{sees_learns, sees_seen, sees_no_more}
 use Rattle.cj_publish.proofs.seats.CodeTable.look.Goals as goal
 
 pub load-requires : goal.load-requires
@@ -44,3 +44,10 @@ returns-clause-known c =
     let own = c.requires.own in
     c.load.ensures.2.3 c.args.cell (subst (λ (k : Key). IsAt k c.word_of-at.result c.args.cell)
     (sym own.key) record { cell = c.requires.cell; word = c.word_of-at.ensures.word })
+
+pub returns-clause-no_more : goal.returns-clause-no_more
+returns-clause-no_more c =
+    let own = c.requires.own in
+    let here = subst (λ (k : Key). IsAt k c.word_of-at.result c.args.cell) (sym own.key) record { cell = c.requires.cell; word = c.word_of-at.ensures.word } in
+    let h = (c.load.ensures.2.1 c.args.cell here).1 in
+    λ sole. sees_no_more _ h.0 _ c.args.cell c.load.result (c.args.cell, c.load.result) h.1 h.2 (c.load.ensures.2.3 c.args.cell here sole)

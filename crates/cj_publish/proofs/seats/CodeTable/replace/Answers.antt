@@ -10,7 +10,7 @@ use Rattle.cj_publish.specs.declared.publishing.Published.TheVariants as how
 use Rattle.cj_publish.specs.Calls.{Publishes}
 use Rattle.cj_publish.proofs.Spelt.{first_word_is}
 use Rattle.cj_publish.proofs.Writes.{neared_ok, publishes}
-use Rattle.cj_publish.proofs.Several.{gains_same, found_gives, published_gives}
+use Rattle.cj_publish.proofs.Several.{gains_same, sees_itself, found_gives, published_gives}
 use Rattle.cj_publish.proofs.seats.CodeTable.replace.Goals as goal
 
 pub load-seen-requires : goal.load-seen-requires
@@ -32,7 +32,7 @@ loop-seen-init c =
       at_cell = here;
       reliable = c.load-seen.ensures.2.2;
       slots = c.load-seen.ensures.2.0;
-      searching = λ d e. found_gives v v w d c.args.cell o (gains_same v) e
+      searching = λ d e. found_gives v v w d c.args.cell o (gains_same v) e (λ _. sees_itself v)
           (c.load-seen.ensures.2.1 d c.args.cell e (subst (λ (k : Key). IsAt k c.word_of-at.result c.args.cell) (sym r.own.2) here));
     }
 
@@ -70,7 +70,7 @@ returns-then-found-seen-clause-publishes c =
     let whole = r.ready.2 in
     let long = (first_word_is (program_in v.key) c.args.cell.function c.args.cell.slot d.written r.ready.3).0 in
     let inside : d.offset < v.key.size = omega arith in
-    let p = published_gives v u w d c.args.cell r.ready.1 (subst (λ (k : Key). d.offset < k.size) (sym h.0.key) inside) h.0 made in
+    let p = published_gives v u w d c.args.cell r.ready.1 (subst (λ (k : Key). d.offset < k.size) (sym h.0.key) inside) h.0 h.3 made in
     subst (λ (o : ℕ). Publishes v c.args.cell (how.Published o) w) (sym mine) p
 
 pub loop-seen-preserved : goal.loop-seen-preserved
@@ -90,7 +90,7 @@ loop-seen-preserved c =
           let h = (c.loop-seen.invariant.searching d e).0 (omega arith) in
           let here = subst (λ (k : Key). IsAt k c.word_of-at.result c.args.cell) (sym (h.0.key ∙ r.own.2)) c.loop-seen.invariant.at_cell in
           let f = ((c.compare_exchange-found.ensures.2.1 d c.args.cell h.1 here).1 c.if-found-seen.false).1 in
-          found_gives v u w d c.args.cell o h.0 h.1 f;
+          found_gives v u w d c.args.cell o h.0 h.1 h.3 f;
     }
 
 pub loop-seen-smaller : goal.loop-seen-smaller
