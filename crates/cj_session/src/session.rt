@@ -54,6 +54,7 @@ impl<'a> Session<'a> {
         ensures ready { IsReady result }
         ensures tables { (result.checked.now ≡ checked.now) × (result.table.now ≡ table.now) × (result.profile.now ≡ profile.now) }
         ensures seats { (result.code_seat ≡ code_seat) × (result.profile_seat ≡ profile_seat) }
+        ensures versions { result.versions ≡ versions }
     {
         Session {
             alloc,
@@ -100,6 +101,7 @@ impl<'a> Session<'a> {
     pub fn into_parts(self) -> (CodeSeat, ProfileSeat, Versions<'a>)
         requires ready { IsReady self }
         ensures seats { (result.0 ≡ self.entry.code_seat) × (result.1 ≡ self.entry.profile_seat) }
+        ensures versions { result.2 ≡ self.entry.versions }
         ensures known { AreKnown self.entry.checked.now (view_of result.0) result.2 }
     {
         let Session {
