@@ -1,5 +1,5 @@
 -- A session that has gone through one mark.
-use Rattle.std.proofs.Common.{◌≡◌, ◌∙◌, refl, sym, ap, subst, ℕ, List, [], ◌∷◌, append-nil, map, inr, ℤ}
+use Rattle.std.proofs.Common.{◌≡◌, ◌∙◌, refl, sym, ap, subst, true, ℕ, ◌<◌, List, [], ◌∷◌, append-nil, map, inr, ⊎_elim, ℤ}
 use Rattle.std.specs.Prelude.{IfOk, OnErr, Result, Ok, Err}
 use Rattle.cj_ir.specs.declared.memory.NoMemory.{NoMemory}
 use Rattle.std.proofs.lemmas.List.{map-append}
@@ -11,15 +11,21 @@ use Rattle.cj_engine.specs.Watching.{TellsAtMost}
 use Rattle.cj_profile.specs.Seats.{AddsPart}
 use Rattle.cj_profile.specs.Seats as counts
 use Rattle.cj_publish.specs.declared.seats.CodeSeat.{CodeSeat}
+use Rattle.cj_publish.specs.declared.view.Cell.{Cell}
+use Rattle.cj_publish.specs.declared.view.Region.{Region}
 use Rattle.cj_publish.specs.declared.view.View.{View}
 use Rattle.cj_publish.specs.Seats.{view_of, IsSame}
-use Rattle.cj_publish.specs.Learns.{Learns, learns_nothing}
+use Rattle.cj_publish.specs.Learns.{Learns, learns_nothing, learns_twice}
+use Rattle.cj_publish.specs.Calls.{Grows}
+use Rattle.cj_publish.specs.Plays.{region, Sees}
+use Rattle.cj_publish.specs.Seen.{SeesNoMore}
+use Rattle.cj_publish.specs.Views.{with_regions, with_region, with_look}
 use Rattle.cj_publish.specs.Fetched.{main_of}
 use Rattle.cj_parts.specs.Parts.{MarkPart}
 use Rattle.cj_parts.specs.PartsLaws.{one_part}
 use Rattle.cj_parts.specs.Looks.{IsNotOlder}
 use Rattle.cj_parts.specs.Calls.{FindsNothingNew}
-use Rattle.cj_parts.proofs.Finding.{finds_none, finds_one}
+use Rattle.cj_parts.proofs.Finding.{finds_none, finds_one, finds_nothing, finds_twice}
 use Rattle.cj_session.specs.declared.session.Session.{Session}
 use Rattle.cj_session.specs.Versions.{Entry, IsWholeIn, codes_in, EntriesKnown}
 use Rattle.cj_session.specs.Sessions.{view_in, entered_in, trail_of, look_of, Looks, LooksUp, Stays, Went}
@@ -85,6 +91,31 @@ told_found a b f args (Err e) look went = inr (record {
 
 pub looks_nothing : (v : View) → Looks v v
 looks_nothing v = record { learns = learns_nothing v; claim = refl; taken = refl; joined = refl; alone = λ sole. finds_none v sole }
+
+-- a lookup, where what it found is seen
+pub looks_by_lookup : (v u w : View) (f : Cell) (r : ℕ) (x : Cell × ℕ) → Sees v f r u → w ≡ with_look u x → Learns v w → w.sole ≡ v.sole
+    → (v.sole ≡ true → SeesNoMore v w) → Looks v w
+looks_by_lookup v u w f r x sees e learns sole no_more = record {
+  learns = learns;
+  claim = ap (λ (y : View). y.claim) e ∙ same (λ (y : View). y.claim) (λ rs. refl);
+  taken = ap (λ (y : View). y.taken) e ∙ same (λ (y : View). y.taken) (λ rs. refl);
+  joined = ap (λ (y : View). y.joined) e ∙ same (λ (y : View). y.joined) (λ rs. refl);
+  alone = finds_nothing v w sole no_more;
+}
+  where
+    same : {A : Type 0} (field : View → A) → ((rs : List Region) → field (with_regions v rs) ≡ field v) → field u ≡ field v
+    same field fits = ⊎_elim (λ z. ap field z.1) (λ (z : (n : ℕ) × (0 < r) × (r < v.key.size) × (u ≡ with_region v (region f r n []))).
+        ap field z.3 ∙ fits (region f r z.0 [] ∷ v.regions)) sees
+
+-- and then the version was read
+pub looks_by_fetch : (u v w : View) → Looks u v → Grows v w → Learns v w → Looks u w
+looks_by_fetch u v w h g learns = record {
+  learns = learns_twice u v w h.learns learns;
+  claim = g.claim ∙ h.claim;
+  taken = g.taken ∙ h.taken;
+  joined = g.joined ∙ h.joined;
+  alone = λ sole. let first = h.alone sole in finds_twice [] [] u v w first (finds_nothing v w g.sole (λ _. g.no_more) first.sole);
+}
 
 -- the tables and the seats are the same, and the session has gone through these marks
 pub stays_by : (a b : Session) (marks : List Mark) → b.checked.now ≡ a.checked.now → b.table.now ≡ a.table.now → b.profile.now ≡ a.profile.now

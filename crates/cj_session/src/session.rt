@@ -54,7 +54,7 @@ impl<'a> Session<'a> {
         ensures ready { IsReady result }
         ensures tables { (result.checked.now ≡ checked.now) × (result.table.now ≡ table.now) × (result.profile.now ≡ profile.now) }
         ensures seats { (result.code_seat ≡ code_seat) × (result.profile_seat ≡ profile_seat) }
-        ensures versions { result.versions ≡ versions }
+        ensures versions { result.versions ≡ versions.entry }
     {
         Session {
             alloc,

@@ -9,9 +9,19 @@ use Rattle.cj_machine.specs.CodeMaps.{Grows}
 use Rattle.cj_publish.specs.Seats.{view_of}
 use Rattle.cj_publish.specs.Learns.{learns_twice}
 use Rattle.cj_session.specs.Versions.{Entry, codes_in, EntriesKnown}
-use Rattle.cj_session.proofs.Going.{known_later}
+use Rattle.cj_session.proofs.Going.{known_later, looks_by_lookup, looks_by_fetch}
 use Rattle.cj_session.proofs.Map.{more_grow, more_found, more_known, missing}
 use Rattle.cj_session.proofs.finding.find.Goals as goal
+
+pub returns-in_err-add-clause-looks : goal.returns-in_err-add-clause-looks
+returns-in_err-add-clause-looks c =
+    let l = c.lookup-offset.ensures in
+    looks_by_fetch _ _ _ (looks_by_lookup _ l.looked.0 _ _ _ _ l.looked.1 l.looked.2 l.learns l.same.sole l.no_more) c.fetch.ensures.grows c.fetch.ensures.learns
+
+pub returns-in_ok-add-clause-looks : goal.returns-in_ok-add-clause-looks
+returns-in_ok-add-clause-looks c =
+    let l = c.lookup-offset.ensures in
+    looks_by_fetch _ _ _ (looks_by_lookup _ l.looked.0 _ _ _ _ l.looked.1 l.looked.2 l.learns l.same.sole l.no_more) c.fetch.ensures.grows c.fetch.ensures.learns
 
 pub returns-in_err-version-clause-known : goal.returns-in_err-version-clause-known
 returns-in_err-version-clause-known c =
