@@ -12,7 +12,7 @@ use Rattle.cj_publish.specs.declared.view.View.{View}
 use Rattle.cj_publish.specs.Words.{Has, Each}
 use Rattle.cj_publish.specs.Rule.{IsVersion}
 use Rattle.cj_publish.specs.Seen.{SeenAt, ReadWhole, SeesNoMore, SeesOneMore}
-use Rattle.cj_publish.specs.Views.{with_claim, with_regions, with_region}
+use Rattle.cj_publish.specs.Views.{ended, with_regions, with_region}
 use Rattle.cj_publish.specs.Reliable.{IsSpelled}
 use Rattle.cj_publish.specs.Plays.{region, Finds, take_in, Fetches, fetched}
 use Rattle.cj_publish.proofs.Lists.{each_cons}
@@ -30,8 +30,9 @@ use Rattle.cj_publish.proofs.Looks.{map_has, has_map, taken_in, same_place}
 -- the state of a search for an offset below the claim's, where f's word was found at o
 abbrev pub Searching : View → Claim → Cell → ℕ → View → Type 0
 Searching v c f o u =
-    (o < c.offset → Gains v u × (u.claim ≡ Some c) × ((o ≡ 0) ⊎ SeenAt u f o) × (v.sole ≡ true → SeesNoMore v u))
-    × (c.offset ≤ o → (c.offset < o) × Gains v u × (u.claim ≡ None) × SeenAt u f o × ¬ (v.sole ≡ true))
+    (o < c.offset → Gains v u × (u.claim ≡ Some c) × ((o ≡ 0) ⊎ SeenAt u f o) × (v.sole ≡ true → SeesNoMore v u) × (u.outcomes ≡ v.outcomes))
+    × (c.offset ≤ o → (c.offset < o) × Gains v u × (u.claim ≡ None) × SeenAt u f o × ¬ (v.sole ≡ true)
+    × (u.outcomes ≡ v.outcomes ++ (f, how.Older c.offset o) ∷ []))
 
 -- the first k words of the region of f at o, which has n, are read
 abbrev pub HasRead : View → Cell → ℕ → ℕ → ℕ → List ℕ → Type 0
@@ -58,8 +59,8 @@ gains_region v u r inside g = record {
   within = λ h. each_cons (λ (x : Region). x.offset < u.key.size) r u.regions inside (g.within h);
 }
 
-gains_claim : (v u : View) (c : Option Claim) → Gains v u → Gains v (with_claim u c)
-gains_claim v u c g = record {
+gains_end : (v u : View) (f : Cell) (outcome : Published) → Gains v u → Gains v (ended u f outcome)
+gains_end v u f outcome g = record {
   live = g.live;
   sole = g.sole;
   key = g.key;
@@ -87,14 +88,15 @@ sees_one v r f o (x, inr m, cell, offset) = inl (x, m, cell, offset)
 
 -- what one step of the search finds
 pub found_gives : (v u w : View) (c : Claim) (f : Cell) (o : ℕ) → Gains v u → u.claim ≡ Some c → (v.sole ≡ true → SeesNoMore v u)
-    → Finds u c.offset f o w → Searching v c f o w
-found_gives v u w c f o g is no_more h = (
+    → u.outcomes ≡ v.outcomes → Finds u c.offset f o w → Searching v c f o w
+found_gives v u w c f o g is no_more same h = (
   (λ low. ⊎_elim
       (λ (z : (o ≡ 0) × (w ≡ u)). (
         subst (Gains v) (sym z.1) g,
         ap (λ (y : View). y.claim) z.1 ∙ is,
         inl z.0,
         λ sole. subst (SeesNoMore v) (sym z.1) (no_more sole),
+        ap (λ (y : View). y.outcomes) z.1 ∙ same,
       ))
       (λ (z : (n : ℕ) × (0 < o) × (o < u.key.size) × (w ≡ with_region u (region f o n []))).
       let s : View = with_region u (region f o z.0 []) in (
@@ -103,30 +105,33 @@ found_gives v u w c f o g is no_more h = (
         inr (subst (λ (y : View). SeenAt y f o) (sym z.3) (region f o z.0 [], inl refl, refl, refl)),
         λ sole. subst (SeesNoMore v) (sym z.3) (λ e p x. no_more sole e p
             (sees_again u (region f o z.0 []) (h.3 (g.sole ∙ sole) (λ nothing. let some = z.1 in omega arith)) e p x)),
+        ap (λ (y : View). y.outcomes) z.3 ∙ same,
       ))
       (h.0 low)),
   (λ high. let z = h.1 high in
       let s : View = with_region u (region f o z.2.0 []) in (
         z.0,
-        subst (Gains v) (sym z.2.1) (gains_claim v s None (gains_region v u (region f o z.2.0 []) z.1 g)),
+        subst (Gains v) (sym z.2.1) (gains_end v s f (how.Older c.offset o) (gains_region v u (region f o z.2.0 []) z.1 g)),
         ap (λ (y : View). y.claim) z.2.1,
         subst (λ (y : View). SeenAt y f o) (sym z.2.1) (region f o z.2.0 [], inl refl, refl, refl),
         λ sole. let low = h.2 (g.sole ∙ sole) in omega arith,
+        ap (λ (y : View). y.outcomes) z.2.1 ∙ ap (λ (os : List (Cell × Published)). os ++ (f, how.Older c.offset o) ∷ []) same,
       )),
 )
 
 -- the exchange that succeeds
 pub published_gives : (v u w : View) (c : Claim) (f : Cell) → v.claim ≡ Some c → c.offset < u.key.size → Gains v u
-    → (v.sole ≡ true → SeesNoMore v u)
-    → w ≡ with_claim (with_region u (region f c.offset c.len c.written)) None → Publishes v f (how.Published c.offset) w
-published_gives v u w c f is inside g no_more e =
+    → (v.sole ≡ true → SeesNoMore v u) → u.outcomes ≡ v.outcomes
+    → w ≡ ended (with_region u (region f c.offset c.len c.written)) f (how.Published c.offset) → Publishes v f (how.Published c.offset) w
+published_gives v u w c f is inside g no_more same e =
     let r : Region = region f c.offset c.len c.written in (
       c,
       is,
       refl,
-      subst (Gains v) (sym e) (gains_claim v (with_region u r) None (gains_region v u r inside g)),
+      subst (Gains v) (sym e) (gains_end v (with_region u r) f (how.Published c.offset) (gains_region v u r inside g)),
       ap (λ (y : View). y.claim) e,
       subst (λ (y : View). Has y.regions r) (sym e) (inl refl),
+      ap (λ (y : View). y.outcomes) e ∙ ap (λ (os : List (Cell × Published)). os ++ (f, how.Published c.offset) ∷ []) same,
       λ sole. subst (SeesOneMore v f c.offset) (sym e) (λ h p x. ⊎_elim (λ seen. inl (no_more sole h p seen)) (λ new. inr new) (sees_one u r h p x)),
     )
 
@@ -147,6 +152,7 @@ grows_same v = record {
   claim = refl;
   lookups = refl;
   taken = refl;
+  outcomes = refl;
   joined = refl;
   splits = refl;
   regions =
@@ -166,6 +172,7 @@ grows_more v u at r g = record {
   claim = g.claim;
   lookups = g.lookups;
   taken = g.taken;
+  outcomes = g.outcomes;
   joined = g.joined;
   splits = g.splits;
   regions = λ x h.

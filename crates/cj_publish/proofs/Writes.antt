@@ -15,7 +15,9 @@ use Rattle.cj_publish.specs.declared.view.View.{View}
 use Rattle.cj_publish.specs.Words.{Has, piece}
 use Rattle.cj_publish.specs.Rule.{Place, IsRegion, Apart, FitsClaim, FitsRegion, Grounded, FitsView, Ruled, IsVersion}
 use Rattle.cj_publish.specs.Seen.{IsAmong}
-use Rattle.cj_publish.specs.Views.{with_claim, with_region}
+use Rattle.cj_publish.specs.Views.{with_claim, ended, with_region}
+use Rattle.cj_publish.specs.declared.publishing.Published.{Published}
+use Rattle.cj_publish.specs.declared.publishing.Published.TheVariants as how
 use Rattle.cj_publish.specs.Plays.{region, Finds, neared, published, wrote, IsAt}
 use Rattle.cj_publish.proofs.Numbers.{cell_below, one_cell, this_cell}
 use Rattle.cj_publish.proofs.Reliable.{long_enough, reliable_after}
@@ -25,8 +27,9 @@ use Rattle.cj_publish.proofs.Keeps.{shrink, none_some, frame, views_set, apart_s
 the_claim : (v : View) (c d : Claim) → v.claim ≡ Some c → v.claim ≡ Some d → c ≡ d
 the_claim v c d e f = cc
 
-unclaim : (k : Key) (known : List Place) (ws : List ℕ) (v : View) → FitsView k known ws v → FitsView k known ws (with_claim v None)
-unclaim k known ws v h = record {
+unclaim : (k : Key) (known : List Place) (ws : List ℕ) (v : View) → FitsView k known ws v → (f : Cell) (outcome : Published)
+    → FitsView k known ws (ended v f outcome)
+unclaim k known ws v h f outcome = record {
   key = h.key;
   next = h.next;
   claim = λ c e. absurd (none_some c e);
@@ -207,10 +210,11 @@ module _ {S : Type 0} where
         ((λ _. inr (z.0, z.1, inside, refl)), (λ le. absurd (omega arith)), before, known),
         live,
       ))
-      (λ high. (
-        with_claim seen None,
-        unmoved k s r (number k f + 1) id cs v (with_claim seen None) at (unclaim k r.known s.words seen fits)
-            (no_claim v (with_claim seen None) refl) (stays_more v (with_claim seen None) refl refl (λ x m. inr m)),
+      (λ high.
+      let late : View = ended seen f (how.Older c.offset o) in (
+        late,
+        unmoved k s r (number k f + 1) id cs v late at (unclaim k r.known s.words seen fits f (how.Older c.offset o)) (no_claim v late refl)
+            (stays_more v late refl refl (λ x m. inr m)),
         ((λ l. absurd (high l)), (λ le. (let q : c.offset < o = omega arith in q, inside, (z.0, refl))), before, known),
         live,
       )))
@@ -241,7 +245,8 @@ module _ {S : Type 0} where
   made : (k : Key) (s : State S View) (r : Ruled k s) (id : ℕ) (f : Cell) (cs : List (ℕ × S)) (v : View) (c : Claim) → IsCell k f
       → get_elem? s.views id ≡ some v → v.claim ≡ Some c
       → IsVersion k f c.written → length c.written ≡ c.len → get_or s.words (number k f + 1) 0 < c.offset
-      → Ruled k (stepped s (number k f + 1) c.offset id cs (with_claim (with_region v (region f c.offset c.len c.written)) None) keeps)
+      → Ruled k (stepped s (number k f + 1) c.offset id cs
+      (ended (with_region v (region f c.offset c.len c.written)) f (how.Published c.offset)) keeps)
   made k s r id f cs v c lt at is spells whole newer =
       let h = r.views id v at in
       let hc = h.claim c is in
@@ -249,7 +254,7 @@ module _ {S : Type 0} where
       let ws : List ℕ = set s.words i c.offset in
       let g0 : Place = (f, c.offset, c.len) in
       let more : List Place = g0 ∷ r.known in
-      let w : View = with_claim (with_region v (region f c.offset c.len c.written)) None in
+      let w : View = ended (with_region v (region f c.offset c.len c.written)) f (how.Published c.offset) in
       let inside = hc.inside in
       let flt = cell_below k f lt in
       let ends = hc.ends in
@@ -264,8 +269,8 @@ module _ {S : Type 0} where
       let others = λ (j : ℕ) (u : View) (ne : j ≢ id) (e : get_elem? s.views j ≡ some u). let q = r.views j u e in
       frame k r.known more s.words i c.offset u out (λ g m. inr m) (omega arith) (λ d ed. let z = (q.claim d ed).inside in inl (omega arith))
       (λ d ed. each_cons (λ (g : Place). Apart d.offset d.len g.1 g.2) g0 r.known (r.apart j id u v d c ne e at ed is) (q.claim d ed).apart) q in
-      let mine = frame k r.known more s.words i c.offset (with_claim v None) out (λ g m. inr m) (omega arith) (λ d ed. absurd (none_some d ed))
-      (λ d ed. absurd (none_some d ed)) (unclaim k r.known s.words v h) in
+      let mine = frame k r.known more s.words i c.offset (ended v f (how.Published c.offset)) out (λ g m. inr m) (omega arith) (λ d ed. absurd (none_some d ed))
+      (λ d ed. absurd (none_some d ed)) (unclaim k r.known s.words v h f (how.Published c.offset)) in
       record {
         known = more;
         sized = length-set s.words i c.offset ∙ sized;
@@ -341,20 +346,20 @@ module _ {S : Type 0} where
           (λ (x : ℕ). (w : View) × (a : Act S) × Valid s.homes me.1 a × Ruled k (stepped s (number k f + 1) x id me.1 w a)
           × published (step slots (number k f + 1) old c.offset none) me n (w, carried_after me.1 a))
           (λ e. (
-            with_claim (with_region me.0 (region f c.offset c.len c.written)) None,
+            ended (with_region me.0 (region f c.offset c.len c.written)) f (how.Published c.offset),
             keeps,
             tt,
             made k s r id f me.1 me.0 c is_at.cell at is spells whole (omega arith),
             (
               refl,
               λ d g ed z. (
-                (λ _. λ j. with_claim
+                (λ _. λ j. ended
                     (with_region me.0 (region (one g z j) (the_claim me.0 c d is ed j).offset (the_claim me.0 c d is ed j).len
-                    (the_claim me.0 c d is ed j).written)) None),
+                    (the_claim me.0 c d is ed j).written)) (one g z j) (how.Published (the_claim me.0 c d is ed j).offset)),
                 (λ ne. absurd (ne e)),
               ),
               reliable_after k s (number k f + 1) c.offset id me.1 me.0
-                  (with_claim (with_region me.0 (region f c.offset c.len c.written)) None) at live
+                  (ended (with_region me.0 (region f c.offset c.len c.written)) f (how.Published c.offset)) at live
                   (made k s r id f me.1 me.0 c is_at.cell at is spells whole (omega arith)),
             ),
           ))

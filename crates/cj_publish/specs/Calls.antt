@@ -1,5 +1,5 @@
 -- What each call does to a seat.
-use Rattle.std.specs.Prelude.{◌≡◌, ℕ, ◌+◌, ◌<◌, ◌≤◌, true, Some, None, List, [], length}
+use Rattle.std.specs.Prelude.{◌≡◌, ℕ, ◌+◌, ◌<◌, ◌≤◌, true, Some, None, List, [], ◌∷◌, ◌++◌, length}
 use mathlib.Core.List.{IsPrefix}
 use Rattle.cj_publish.specs.declared.view.Claim.{Claim}
 use Rattle.cj_publish.specs.declared.view.Region.{Region}
@@ -50,13 +50,13 @@ IsOffset v o = (c : Claim) → v.claim ≡ Some c → o ≡ c.offset
 abbrev pub IsReady : View → Cell → Type 0
 IsReady v f = (c : Claim) × (v.claim ≡ Some c) × (length c.written ≡ c.len) × IsVersion v.key f c.written
 
--- The claim is gone: it is a region that the seat has seen, and a sole seat has seen nothing else that is new; or a region of the
--- cell at a greater offset was found, which no sole seat finds.
+-- The claim is gone, and the seat keeps what became of it: it is a region that the seat has seen, and a sole seat has seen nothing
+-- else that is new; or a region of the cell at a greater offset was found, which no sole seat finds.
 abbrev pub Publishes : View → Cell → Published → View → Type 0
 Publishes v f (how.Published o) w = (c : Claim) × (v.claim ≡ Some c) × (o ≡ c.offset) × Gains v w × (w.claim ≡ None)
-    × Has w.regions (region f c.offset c.len c.written) × (v.sole ≡ true → SeesOneMore v f o w)
+    × Has w.regions (region f c.offset c.len c.written) × (w.outcomes ≡ v.outcomes ++ (f, how.Published o) ∷ []) × (v.sole ≡ true → SeesOneMore v f o w)
 Publishes v f (how.Older mine found) w = (c : Claim) × (v.claim ≡ Some c) × (mine ≡ c.offset) × (mine < found) × Gains v w × (w.claim ≡ None)
-    × SeenAt w f found × ¬ (v.sole ≡ true)
+    × SeenAt w f found × (w.outcomes ≡ v.outcomes ++ (f, how.Older mine found) ∷ []) × ¬ (v.sole ≡ true)
 
 -- each region that was seen is seen still, with no fewer words read, and no other one
 pub record Grows (v w : View) : Type 0 where
@@ -67,6 +67,7 @@ pub record Grows (v w : View) : Type 0 where
   pub claim : w.claim ≡ v.claim
   pub lookups : w.lookups ≡ v.lookups
   pub taken : w.taken ≡ v.taken
+  pub outcomes : w.outcomes ≡ v.outcomes
   pub joined : w.joined ≡ v.joined
   pub splits : w.splits ≡ v.splits
   pub regions : Each (λ (x : Region). (y : Region) × Has w.regions y × (y.cell ≡ x.cell) × (y.offset ≡ x.offset) × (y.len ≡ x.len)

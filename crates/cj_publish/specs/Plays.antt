@@ -7,9 +7,10 @@ use Rattle.cj_publish.specs.declared.view.Region.{Region}
 use Rattle.cj_publish.specs.declared.view.View.{View}
 use Rattle.cj_publish.specs.declared.view.Cell.{Cell}
 pub use Rattle.cj_publish.specs.Views.{joined_view, with_claim, with_look}
+use Rattle.cj_publish.specs.declared.publishing.Published.TheVariants as how
 pub use Rattle.cj_publish.specs.Seen.{NotOlder}
 pub use Rattle.cj_publish.specs.Reliable.{IsReliable}
-use Rattle.cj_publish.specs.Views.{with_next, claiming, with_regions, with_region, appended}
+use Rattle.cj_publish.specs.Views.{with_next, claiming, ended, with_regions, with_region, appended}
 use Rattle.cj_publish.specs.Seen.{SeenAt}
 use Rattle.cj_publish.specs.Words.{Has}
 use Rattle.cj_publish.specs.Cells.{cells, number, IsCell}
@@ -40,7 +41,7 @@ FindsSeen v f r = v.sole ≡ true → ¬ (r ≡ 0) → SeenAt v f r
 -- never finds
 abbrev pub Finds : View → ℕ → Cell → ℕ → View → Type 0
 Finds v mine f r w = (r < mine → Sees v f r w)
-    × (mine ≤ r → (mine < r) × (r < v.key.size) × ((n : ℕ) × (w ≡ with_claim (with_region v (region f r n [])) None)))
+    × (mine ≤ r → (mine < r) × (r < v.key.size) × ((n : ℕ) × (w ≡ ended (with_region v (region f r n [])) f (how.Older mine r))))
     × (v.sole ≡ true → r < mine) × FindsSeen v f r
 
 -- the step was made on the word of this slot
@@ -57,7 +58,7 @@ abbrev pub published : {S : Type 0} → Step S → Me S View → ℕ → Me S Vi
 published st m r m' =
     (m'.1 ≡ m.1)
     × ((c : Claim) (f : Cell) → m.0.claim ≡ Some c → IsAt m.0.key st.word f →
-    (r ≡ st.first → m'.0 ≡ with_claim (with_region m.0 (region f c.offset c.len c.written)) None)
+    (r ≡ st.first → m'.0 ≡ ended (with_region m.0 (region f c.offset c.len c.written)) f (how.Published c.offset))
     × (r ≢ st.first → (st.first < r) × Finds m.0 c.offset f r m'.0)) × IsReliable m'.0
 
 -- the next word of the claim is written

@@ -7,11 +7,12 @@ use Rattle.cj_publish.specs.declared.view.Region.{Region}
 use Rattle.cj_publish.specs.declared.view.View.{View}
 use Rattle.cj_publish.specs.declared.view.Cell.{Cell}
 use Rattle.cj_publish.specs.declared.view.Told.{Told}
+use Rattle.cj_publish.specs.declared.publishing.Published.{Published}
 use Rattle.cj_publish.specs.Cells.{key_in}
 
 -- the first seat of a new table has seen nothing
 abbrev pub fresh : Key → View
-fresh k = record { live = true; sole = true; key = k; next = 0; claim = None; regions = []; lookups = []; taken = 0; joined = []; splits = 0 }
+fresh k = record { live = true; sole = true; key = k; next = 0; claim = None; regions = []; lookups = []; taken = 0; outcomes = []; joined = []; splits = 0 }
 
 abbrev pub fresh_as : Told → View
 fresh_as t = fresh (key_in t)
@@ -22,7 +23,7 @@ shared v = record v { sole = false; splits = v.splits + 1 }
 
 -- a new seat has seen what the old one has
 abbrev pub given : View → View
-given v = record v { sole = false; claim = None; lookups = []; taken = 0; joined = []; splits = 0 }
+given v = record v { sole = false; claim = None; lookups = []; taken = 0; outcomes = []; joined = []; splits = 0 }
 
 abbrev pub no_program : Program
 no_program = record { functions = [] }
@@ -37,6 +38,7 @@ joined_view v w = record v {
   next = max v.next w.next;
   regions = v.regions ++ w.regions;
   taken = v.taken + w.taken;
+  outcomes = v.outcomes ++ w.outcomes;
   joined = v.joined ++ w.lookups ∷ w.joined;
   splits = v.splits + w.splits;
 }
@@ -50,6 +52,10 @@ claiming v o n = record v { next = o + n; claim = Some record { offset = o; len 
 
 abbrev pub with_claim : View → Option Claim → View
 with_claim v c = record v { claim = c }
+
+-- the claim is gone, and that became of it
+abbrev pub ended : View → Cell → Published → View
+ended v f outcome = record v { claim = None; outcomes = v.outcomes ++ (f, outcome) ∷ [] }
 
 abbrev pub with_regions : View → List Region → View
 with_regions v rs = record v { regions = rs }

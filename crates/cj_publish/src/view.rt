@@ -1,5 +1,6 @@
 //! What a seat knows. Of these types only `Told` and `Cell` are made.
 
+use crate::publishing::Published;
 use cj_ir::{Checked, FunId, Program};
 use std::collections::LinkedList;
 use std::snapshot::Snapshot;
@@ -42,8 +43,9 @@ pub struct Region {
 }
 
 /// Whether the seat was not joined into another yet, whether there never was another, the key, the greatest first
-/// unclaimed word that it has seen, its claim, the regions that it has seen, its lookups, how many words it has claimed, the
-/// lookups of those that were joined into it, and how many seats were split off it and off those.
+/// unclaimed word that it has seen, its claim, the regions that it has seen, its lookups, how many words it has claimed, what
+/// became of its claims and of those of the seats that were joined into it, the lookups of the latter, and how many seats were
+/// split off it and off those.
 pub struct View {
     pub live: bool,
     pub sole: bool,
@@ -53,6 +55,7 @@ pub struct View {
     pub regions: LinkedList<Region>,
     pub lookups: LinkedList<(Cell, u64)>,
     pub taken: u64,
+    pub outcomes: LinkedList<(Cell, Published)>,
     pub joined: LinkedList<LinkedList<(Cell, u64)>>,
     pub splits: u64,
 }

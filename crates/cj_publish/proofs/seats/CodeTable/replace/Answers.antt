@@ -1,4 +1,4 @@
-use Rattle.std.proofs.Common.{◌≡◌, ℕ, ◌<◌, rules, sym, ◌∙◌, subst, arith}
+use Rattle.std.proofs.Common.{◌≡◌, ℕ, ◌<◌, rules, refl, sym, ◌∙◌, subst, arith}
 use Rattle.cj_publish.specs.declared.view.Key.{Key}
 use Rattle.cj_publish.specs.declared.view.Claim.{Claim}
 use Rattle.cj_publish.specs.declared.view.View.{View}
@@ -32,7 +32,7 @@ loop-seen-init c =
       at_cell = here;
       reliable = c.load-seen.ensures.2.2;
       slots = c.load-seen.ensures.2.0;
-      searching = λ d e. found_gives v v w d c.args.cell o (gains_same v) e (λ _. sees_itself v)
+      searching = λ d e. found_gives v v w d c.args.cell o (gains_same v) e (λ _. sees_itself v) refl
           (c.load-seen.ensures.2.1 d c.args.cell e (subst (λ (k : Key). IsAt k c.word_of-at.result c.args.cell) (sym r.own.2) here));
     }
 
@@ -70,8 +70,19 @@ returns-then-found-seen-clause-publishes c =
     let whole = r.ready.2 in
     let long = (first_word_is (program_in v.key) c.args.cell.function c.args.cell.slot d.written r.ready.3).0 in
     let inside : d.offset < v.key.size = omega arith in
-    let p = published_gives v u w d c.args.cell r.ready.1 (subst (λ (k : Key). d.offset < k.size) (sym h.0.key) inside) h.0 h.3 made in
+    let p = published_gives v u w d c.args.cell r.ready.1 (subst (λ (k : Key). d.offset < k.size) (sym h.0.key) inside) h.0 h.3 h.4 made in
     subst (λ (o : ℕ). Publishes v c.args.cell (how.Published o) w) (sym mine) p
+
+pub returns-clause-publishes : goal.returns-clause-publishes
+returns-clause-publishes c =
+    let r = c.requires in
+    let d : Claim = r.ready.0 in
+    let mine : c.args.mine ≡ d.offset = r.mine d r.ready.1 in
+    let test = c.loop-seen-test.false in
+    let z = (c.loop-seen.invariant.searching d r.ready.1).1 (omega arith) in
+    let v : View = c.args.seat.now.me.0 in
+    let u : View = c.loop-seen.seat.me.0 in
+    subst (λ (o : ℕ). Publishes v c.args.cell (how.Older o c.loop-seen.seen) u) (sym mine) (d, r.ready.1, refl, z.0, z.1, z.2, z.3, z.5, z.4)
 
 pub loop-seen-preserved : goal.loop-seen-preserved
 loop-seen-preserved c =
@@ -90,7 +101,7 @@ loop-seen-preserved c =
           let h = (c.loop-seen.invariant.searching d e).0 (omega arith) in
           let here = subst (λ (k : Key). IsAt k c.word_of-at.result c.args.cell) (sym (h.0.key ∙ r.own.2)) c.loop-seen.invariant.at_cell in
           let f = ((c.compare_exchange-found.ensures.2.1 d c.args.cell h.1 here).1 c.if-found-seen.false).1 in
-          found_gives v u w d c.args.cell o h.0 h.1 h.3 f;
+          found_gives v u w d c.args.cell o h.0 h.1 h.3 h.4 f;
     }
 
 pub loop-seen-smaller : goal.loop-seen-smaller
