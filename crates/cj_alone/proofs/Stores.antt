@@ -83,7 +83,8 @@ module _ (P : Program) (size : ℕ) (t : CodeTable) (p : Profile) (old new : Sea
         profile_sole = same.profile.sole ∙ hinted.sole ∙ sole_first;
         free = free.free;
         prepared = warmed setups
-            (prepared_none P setups (view_at old) (reads_at old) (ap (λ (v : View). v.taken) is_fresh) (ap (λ (v : View). v.lookups) is_fresh)
+            (prepared_none P setups (view_at old) (reads_at old) (ap (λ (v : View). v.taken) is_fresh)
+            (ap (λ (v : View). v.outcomes) is_fresh) (ap (λ (v : View). v.lookups) is_fresh)
             (alone_at_first (view_at old) sole (ap (λ (v : View). v.regions) is_fresh)) set);
       }
 

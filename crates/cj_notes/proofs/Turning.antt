@@ -6,6 +6,7 @@ use Rattle.cj_profile.specs.declared.view.Read.{Read}
 use Rattle.cj_profile.specs.declared.layout.Word.TheVariants as word
 use Rattle.cj_profile.specs.Reads.{load}
 use Rattle.cj_publish.specs.declared.view.View.{View}
+use Rattle.cj_publish.specs.Views.{Outcomes}
 use Rattle.cj_publish.specs.Learns.{learns_nothing, learns_twice}
 use Rattle.cj_notes.specs.declared.notes.WorkNote.{WorkNote}
 use Rattle.cj_notes.specs.Causes.{kept}
@@ -35,7 +36,7 @@ module _ (P : Program) (callers : ℕ) where
     each = All-nil (IsTurn P callers);
     are_kept = refl;
     reads = sym (append-nil reads);
-    notes = notes_none P v.taken v refl;
+    notes = notes_none P v.taken v.outcomes v refl refl;
   }
 
   module _ (work : List WorkNote) (u v : View) (first old : List Read) (h : TurnsMade P callers work u v first old) where
@@ -58,7 +59,8 @@ module _ (P : Program) (callers : ℕ) where
               made.reads.2 ∙ ap (λ (l : List Read). l ++ made.reads.0) loaded ∙ append_assoc old (seen ∷ []) made.reads.0
               ∙ ap (λ (l : List Read). l ++ seen ∷ made.reads.0) h.reads ∙ append_assoc first (turn_reads h.turns) (seen ∷ made.reads.0)
               ∙ ap (λ (l : List Read). first ++ l) (sym (reads_push h.turns t));
-          notes = notes_kept P u.taken v w work made.works.learns h.notes note made.code made.works.cause made.works.taken;
+          notes = notes_kept P u.taken u.outcomes v w work made.works.learns h.notes note made.code made.works.cause made.works.taken
+              made.works.outcomes;
         }
 
     -- the last look
@@ -66,5 +68,7 @@ module _ (P : Program) (callers : ℕ) where
     turns_done new last all e = record { made = old; turns = h; last = last; finished = all; reads = e }
 
   -- the notes of a seat that had claimed nothing
-  pub notes_of_turns : (work : List WorkNote) (v w : View) (old new : List Read) → v.taken ≡ 0 → TurnsMade P callers work v w old new → NotesStand P w work
-  notes_of_turns work v w old new none h = subst (λ (n : ℕ). NotesAdd P n w work) none h.notes
+  pub notes_of_turns : (work : List WorkNote) (v w : View) (old new : List Read) → v.taken ≡ 0 → v.outcomes ≡ []
+      → TurnsMade P callers work v w old new → NotesStand P w work
+  notes_of_turns work v w old new none empty h =
+      subst (λ (n : ℕ). NotesAdd P n [] w work) none (subst (λ (os : Outcomes). NotesAdd P v.taken os w work) empty h.notes)

@@ -1,5 +1,5 @@
 -- The causes of a worker's notes, from what the calls of the code table say.
-use Rattle.std.proofs.Common.{◌≡◌, ◌⊎◌, ◌∙◌, refl, sym, ap, subst, arith, le_refl, ℕ, ◌+◌, ◌≤◌, ◌<◌, List, [], length, Some, None}
+use Rattle.std.proofs.Common.{◌≡◌, ◌⊎◌, ◌∙◌, refl, sym, ap, subst, arith, le_refl, ℕ, ◌+◌, ◌≤◌, ◌<◌, List, [], ◌∷◌, ◌++◌, append-nil, length, Some, None}
 use Rattle.std.proofs.lemmas.Option.{same_Some}
 use Rattle.cj_ir.specs.declared.language.FunId.{FunId}
 use Rattle.cj_ir.specs.declared.language.Program.{Program}
@@ -23,6 +23,8 @@ use Rattle.cj_publish.specs.Learns.{Learns}
 use Rattle.cj_notes.specs.declared.notes.WorkNote.TheVariants.{Published, Older, Full, TooLarge, NoneAsked, Taken}
 use Rattle.cj_notes.specs.Jobs.{job, IsMadeFor}
 use Rattle.cj_notes.specs.Causes.{IsSpellable, word_count, claims, words_in, claimed_by}
+use Rattle.cj_publish.specs.Views.{Outcomes}
+use Rattle.cj_notes.specs.Standing.{outcome_of}
 use Rattle.cj_notes.specs.Works.{Worked}
 use Rattle.cj_publish.specs.Learns.{learns_nothing, learns_twice}
 use Rattle.cj_publish.specs.Learns.{learns_more}
@@ -35,7 +37,7 @@ spellable words code h = subst (λ (n : ℕ). n ≤ 65536) (count_of words code 
 
 -- nothing was to be done, or nothing is left to do
 pub idle : (P : Program) (v : View) → v.claim ≡ None → Worked P (record { note = NoneAsked; code = None }) v v
-unfolding claims claimed_by
+unfolding claims claimed_by outcome_of
 idle P v none = record {
   learns = learns_nothing v;
   claim = none;
@@ -44,11 +46,12 @@ idle P v none = record {
   cause = record { has_code = refl; shown = tt };
   fresh = tt;
   taken = omega arith;
+  outcomes = sym (append-nil v.outcomes);
   alone = λ sole. (sole, λ f o x. x);
 }
 
 pub late : (P : Program) (f : FunId) (found : ℕ) (v : View) → v.claim ≡ None → Worked P (record { note = Taken f found; code = None }) v v
-unfolding claims claimed_by
+unfolding claims claimed_by outcome_of
 late P f found v none = record {
   learns = learns_nothing v;
   claim = none;
@@ -57,6 +60,7 @@ late P f found v none = record {
   cause = record { has_code = refl; shown = tt };
   fresh = tt;
   taken = omega arith;
+  outcomes = sym (append-nil v.outcomes);
   alone = λ sole. (sole, λ f o x. x);
 }
 
@@ -64,7 +68,7 @@ module _ (P : Program) (f : FunId) (level : ℕ) (s : Snapshot) (code : Code) (s
   -- the spelling is too long, and nothing was done
   pub too_large : (v : View) (len : ℕ) → v.claim ≡ None → EncodeFails (encode.TooLarge len) code
       → Worked P (record { note = TooLarge f level len s; code = Some code }) v v
-  unfolding claims claimed_by
+  unfolding claims claimed_by outcome_of
   too_large v len none long = record {
     learns = learns_nothing v;
     claim = none;
@@ -73,6 +77,7 @@ module _ (P : Program) (f : FunId) (level : ℕ) (s : Snapshot) (code : Code) (s
     cause = record { has_code = ((skips, made), long); shown = tt };
     fresh = tt;
     taken = omega arith;
+    outcomes = sym (append-nil v.outcomes);
     alone = λ sole. (sole, λ f o x. x);
   }
 
@@ -80,7 +85,7 @@ module _ (P : Program) (f : FunId) (level : ℕ) (s : Snapshot) (code : Code) (s
     -- there was no room
     pub no_room : (v w : View) (next need : ℕ) → Learns v w → v.claim ≡ None → Claims v (length words) (answer.Full next need) w
         → Worked P (record { note = Full f level next need s; code = Some code }) v w
-    unfolding claims claimed_by
+    unfolding claims claimed_by outcome_of
     no_room v w next need g none h =
         let at : w.next ≡ next = ap (λ (x : View). x.next) h.0 in
         record {
@@ -94,6 +99,7 @@ module _ (P : Program) (f : FunId) (level : ℕ) (s : Snapshot) (code : Code) (s
           };
           fresh = sym at;
           taken = let e : w.taken ≡ v.taken = ap (λ (x : View). x.taken) h.0 in omega arith;
+          outcomes = ap (λ (x : View). x.outcomes) h.0 ∙ sym (append-nil v.outcomes);
           alone = λ sole. (ap (λ (x : View). x.sole) h.0 ∙ sole, subst (SeesNoMore v) (sym h.0) (λ f o x. x));
         }
 
@@ -111,6 +117,9 @@ module _ (P : Program) (f : FunId) (level : ℕ) (s : Snapshot) (code : Code) (s
       taken_b : b.taken ≡ v.taken + word_count code
       taken_b = ap (λ (x : View). x.taken) b_is ∙ ap (λ (x : View). x.taken) claimed.0 ∙ ap (λ (n : ℕ). v.taken + n) (count_of words code spells)
 
+      outcomes_b : b.outcomes ≡ v.outcomes
+      outcomes_b = ap (λ (x : View). x.outcomes) b_is ∙ ap (λ (x : View). x.outcomes) claimed.0
+
       sole_b : b.sole ≡ v.sole
       sole_b = ap (λ (x : View). x.sole) b_is ∙ ap (λ (x : View). x.sole) claimed.0
 
@@ -125,7 +134,7 @@ module _ (P : Program) (f : FunId) (level : ℕ) (s : Snapshot) (code : Code) (s
 
       -- the claim was published
       pub at_last : (o : ℕ) → Publishes b (main_of f) (how.Published o) w → Worked P (record { note = Published f level o s skips; code = Some code }) v w
-      unfolding claims claimed_by words_in
+      unfolding claims claimed_by words_in outcome_of
       at_last o h =
           let c : Claim = h.0 in
           let is = claim_is c h.1 in
@@ -142,16 +151,17 @@ module _ (P : Program) (f : FunId) (level : ℕ) (s : Snapshot) (code : Code) (s
             };
             fresh = subst (λ (n : ℕ). v.next ≤ n) (sym o_is) claimed.1;
             taken = gains.taken ∙ taken_b;
+            outcomes = h.6 ∙ ap (λ (os : Outcomes). os ++ (main_of f, how.Published o) ∷ []) outcomes_b;
             alone = λ sole. (
               gains.sole ∙ sole_b ∙ sole,
-              subst (λ (rs : List Region). (g : Cell) (p : ℕ) → SeenAt w g p → IsAmong rs g p ⊎ ((g ≡ main_of f) × (p ≡ o))) regions_b (h.6 (sole_b ∙ sole)),
+              subst (λ (rs : List Region). (g : Cell) (p : ℕ) → SeenAt w g p → IsAmong rs g p ⊎ ((g ≡ main_of f) × (p ≡ o))) regions_b (h.7 (sole_b ∙ sole)),
             );
           }
 
       -- a newer one was found
       pub too_late : (mine found : ℕ) → Publishes b (main_of f) (how.Older mine found) w
           → Worked P (record { note = Older f level mine found s; code = Some code }) v w
-      unfolding claims claimed_by words_in
+      unfolding claims claimed_by words_in outcome_of
       too_late mine found h =
           let c : Claim = h.0 in
           let is = claim_is c h.1 in
@@ -168,5 +178,6 @@ module _ (P : Program) (f : FunId) (level : ℕ) (s : Snapshot) (code : Code) (s
             };
             fresh = subst (λ (n : ℕ). v.next ≤ n) (sym mine_is) claimed.1;
             taken = gains.taken ∙ taken_b;
-            alone = λ sole. absurd (h.7 (sole_b ∙ sole));
+            outcomes = h.7 ∙ ap (λ (os : Outcomes). os ++ (main_of f, how.Older mine found) ∷ []) outcomes_b;
+            alone = λ sole. absurd (h.8 (sole_b ∙ sole));
           }

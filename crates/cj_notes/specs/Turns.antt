@@ -43,7 +43,7 @@ pub record TurnsMade (P : Program) (callers : ℕ) (work : List WorkNote) (v w :
   pub each : All (IsTurn P callers) turns
   pub are_kept : work ≡ kept_notes turns
   pub reads : new ≡ old ++ turn_reads turns
-  pub notes : NotesAdd P v.taken w work
+  pub notes : NotesAdd P v.taken v.outcomes w work
 
 -- the last load found that all callers have finished
 pub record TurnsDone (P : Program) (callers : ℕ) (work : List WorkNote) (v w : View) (old new : List Read) : Type 0 where

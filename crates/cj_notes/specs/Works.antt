@@ -1,5 +1,5 @@
 -- What a worker's call does to the views of its seats.
-use Rattle.std.specs.Prelude.{◌≡◌, ℕ, ◌+◌, ◌≤◌, true, List, Option, Some, None, ⊤}
+use Rattle.std.specs.Prelude.{◌≡◌, ℕ, ◌+◌, ◌≤◌, true, List, ◌++◌, Option, Some, None, ⊤}
 use Rattle.cj_ir.specs.declared.language.FunId.{FunId}
 use Rattle.cj_ir.specs.declared.language.Program.{Program}
 use Rattle.cj_draft.specs.declared.code.Code.{Code}
@@ -13,7 +13,7 @@ use Rattle.cj_notes.specs.declared.notes.WorkNote.{WorkNote}
 use Rattle.cj_notes.specs.declared.notes.WorkNote.TheVariants.{Published, Older, Full, TooLarge, NoneAsked, Taken}
 use Rattle.cj_notes.specs.Jobs.{Job, job_of}
 use Rattle.cj_notes.specs.Causes.{Noted, claimed_by}
-use Rattle.cj_notes.specs.Standing.{NoteStands}
+use Rattle.cj_notes.specs.Standing.{NoteStands, outcome_of}
 use Rattle.cj_notes.specs.JobParts.{LooksAt, WarmPart, WorkPart, LostMark, LostJob}
 
 -- what was claimed lies behind all that was seen before; a note without room has the greatest `next` that was seen
@@ -44,6 +44,7 @@ pub record Worked (P : Program) (n : Noted) (v w : View) : Type 0 where
   pub cause : NoteStands P w n
   pub fresh : IsFresh v w n.note
   pub taken : w.taken ≡ v.taken + claimed_by n
+  pub outcomes : w.outcomes ≡ v.outcomes ++ outcome_of n.note
   pub alone : v.sole ≡ true → (w.sole ≡ true) × SeesItsOwn v w n.note
 
 -- a `warm` line

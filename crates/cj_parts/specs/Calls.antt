@@ -45,6 +45,7 @@ pub record Ran (P : Program) (call : Begun) (r : Report) (v w : View) (old new :
   pub learns : Learns v w
   pub claim : w.claim ≡ v.claim
   pub taken : w.taken ≡ v.taken
+  pub outcomes : w.outcomes ≡ v.outcomes
   pub joined : w.joined ≡ v.joined
   pub trail : w.lookups ≡ v.lookups ++ map looked r.looks
   pub floor : All (IsNotOlder v) r.looks
@@ -62,6 +63,7 @@ pub record RanOut (P : Program) (call : Begun) (v w : View) (old new : List Read
   pub learns : Learns v w
   pub claim : w.claim ≡ v.claim
   pub taken : w.taken ≡ v.taken
+  pub outcomes : w.outcomes ≡ v.outcomes
   pub joined : w.joined ≡ v.joined
   pub looks : List Look
   pub trail : w.lookups ≡ v.lookups ++ map looked looks

@@ -53,6 +53,10 @@ claiming v o n = record v { next = o + n; claim = Some record { offset = o; len 
 abbrev pub with_claim : View → Option Claim → View
 with_claim v c = record v { claim = c }
 
+-- what became of claims, each with the cell for which it was made
+abbrev pub Outcomes : Type 0
+Outcomes = List (Cell × Published)
+
 -- the claim is gone, and that became of it
 abbrev pub ended : View → Cell → Published → View
 ended v f outcome = record v { claim = None; outcomes = v.outcomes ++ (f, outcome) ∷ [] }

@@ -27,10 +27,10 @@ use Rattle.cj_parts.specs.Known.{known_codes}
 use Rattle.cj_parts.specs.Looks.{looked}
 use Rattle.cj_parts.proofs.Known.{known_in, in_later, in_known}
 use Rattle.cj_notes.specs.Standing.{NoteStands, NotesStand}
-use Rattle.cj_notes.proofs.Standing.{note_grows}
+use Rattle.cj_notes.proofs.Standing.{note_grows, outcomes_append}
 use Rattle.cj_records.specs.Items.{setup_items}
 use Rattle.cj_records.specs.Records.{Role, Caller, Worker, Done, call_items, RoleRecord, IsRecord, IsBacked, IsOver, RoleStands}
-use Rattle.cj_records.specs.Loops.{Prepared}
+use Rattle.cj_records.specs.Loops.{SetupsActed}
 use Rattle.cj_records.specs.Versions.{work_of, Joined}
 use Rattle.cj_records.proofs.Growth.{in_parts_grows}
 
@@ -72,14 +72,15 @@ pub records_known : (P : Program) (size : ℕ) (setups : List Setup) (warm : Lis
     → IsReliable v → Joined P size setups warm roles v reads others → All (IsRecord P (known_codes v)) roles
 records_known P size setups warm roles v reads others ok h = All-weaker (IsBacked P v) (IsRecord P (known_codes v)) (backed_record P v ok) roles h.backed
 
-notes_join : (P : Program) (a b c : View) (xs ys : List WorkNote) → Learns a c → Learns b c → c.taken ≡ a.taken + b.taken → NotesStand P a xs →
-    NotesStand P b ys → NotesStand P c (xs ++ ys)
-notes_join P a b c xs ys g h e nx ny = record {
+notes_join : (P : Program) (a b c : View) (xs ys : List WorkNote) → Learns a c → Learns b c → c.taken ≡ a.taken + b.taken
+    → c.outcomes ≡ a.outcomes ++ b.outcomes → NotesStand P a xs → NotesStand P b ys → NotesStand P c (xs ++ ys)
+notes_join P a b c xs ys g h e o nx ny = record {
   noted = nx.noted ++ ny.noted;
   are_notes = map-append (λ (n : Noted). n.note) nx.noted ny.noted ∙ (λ i. nx.are_notes i ++ ny.are_notes i);
   causes = All-append (NoteStands P c) nx.noted ny.noted (All-weaker (NoteStands P a) (NoteStands P c) (note_grows P a c g) nx.noted nx.causes)
       (All-weaker (NoteStands P b) (NoteStands P c) (note_grows P b c h) ny.noted ny.causes);
   taken = let s = sum_by-append claimed_by nx.noted ny.noted in let k = nx.taken in let l = ny.taken in omega arith;
+  outcomes = o ∙ (λ i. nx.outcomes i ++ ny.outcomes i) ∙ sym (outcomes_append xs ys);
 }
 
 work_push : (roles : List Done) (d : Done) → work_of (roles ++ d ∷ []) ≡ work_of roles ++ d.work
@@ -95,7 +96,7 @@ module _ (P : Program) (size : ℕ) (setups : List Setup) (warm : List WorkNote)
       (λ x h. has_right v.regions u.regions x h)
 
   -- no role was joined yet
-  pub joined_none : (v : View) (reads : List Read) (others : List (List Read)) → IsOver P size v → Prepared P setups setups warm v reads → FromZeros reads →
+  pub joined_none : (v : View) (reads : List Read) (others : List (List Read)) → IsOver P size v → SetupsActed P setups setups warm v reads → FromZeros reads →
       v.joined ≡ [] → others ≡ [] → Joined P size setups warm [] v reads others
   unfolding setup_items work_of
   joined_none v reads others over h began none empty = record {
@@ -130,7 +131,7 @@ module _ (P : Program) (size : ℕ) (setups : List Setup) (warm : List WorkNote)
       record {
         over = record { live = h.over.live; program = h.over.program; one_slot = h.over.one_slot; sized = h.over.sized };
         are_warm = h.are_warm;
-        notes = subst (NotesStand P w) all (notes_join P v u w (warm ++ work_of roles) work mine theirs refl h.notes r.notes);
+        notes = subst (NotesStand P w) all (notes_join P v u w (warm ++ work_of roles) work mine theirs refl refl h.notes r.notes);
         lookups = h.lookups;
         began = h.began;
         in_parts = h.in_parts;

@@ -21,7 +21,8 @@ use Rattle.cj_parts.proofs.Growth.{v_grows, zip_push}
 use Rattle.cj_parts.proofs.Rising.{looks_never_fall, trail_push}
 use Rattle.cj_notes.specs.declared.notes.WorkNote.{WorkNote}
 use Rattle.cj_notes.specs.Causes.{Noted, claimed_by}
-use Rattle.cj_notes.specs.Standing.{NotesStand}
+use Rattle.cj_publish.specs.Views.{Outcomes}
+use Rattle.cj_notes.specs.Standing.{NotesStand, outcome_of}
 use Rattle.cj_notes.specs.Works.{WorkedOne}
 use Rattle.cj_notes.proofs.Standing.{notes_push}
 use Rattle.cj_records.specs.Notes.{published, published_by}
@@ -109,7 +110,8 @@ module _ (P : Program) (setups : List Setup) where
       let finds = ran.alone shown.alone.sole in
       let newest : All (IsNewest (published_by work)) r.looks = newest_found a work r.looks shown.alone.seen seen finds.found in
       let alone : WorkedAlone c (work ++ note ∷ []) = alone_later b c work note (alone_looked a b work r.looks shown.alone finds) w.alone in
-      let noted = notes_push P 0 a c work g h.notes n w.cause (w.taken ∙ ap (λ (t : ℕ). t + claimed_by n) ran.taken) in
+      let noted = notes_push P 0 [] a c work g h.notes n w.cause (w.taken ∙ ap (λ (t : ℕ). t + claimed_by n) ran.taken)
+      (w.outcomes ∙ ap (λ (os : Outcomes). os ++ outcome_of note) ran.outcomes) in
       record {
         alone = alone;
         shows = record {

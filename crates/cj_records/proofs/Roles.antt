@@ -59,14 +59,16 @@ module _ (P : Program) where
       (parts_push (IsPart P no_codes) (map OfSetup setups) (OfSetup s) reads part h p)
 
   -- no `warm` line yet
-  pub prepared_none : (setups : List Setup) (v : View) (reads : List Read) → v.taken ≡ 0 → v.lookups ≡ [] → WorkedAlone v [] → HintsSet setups reads
-      → Prepared P setups [] [] v reads
+  pub prepared_none : (setups : List Setup) (v : View) (reads : List Read) → v.taken ≡ 0 → v.outcomes ≡ [] → v.lookups ≡ [] → WorkedAlone v []
+      → HintsSet setups reads → Prepared P setups [] [] v reads
   unfolding warm_lines
-  prepared_none setups v reads none looks alone h = record {
-    are_warm = tt;
-    notes = notes_none P 0 v none;
-    lookups = looks;
-    in_parts = subst (λ (is : List Item). ReadsInParts P no_codes is reads) (sym (append-nil (map OfSetup setups))) h;
+  prepared_none setups v reads none empty looks alone h = record {
+    acted = record {
+      are_warm = tt;
+      notes = notes_none P 0 [] v none empty;
+      lookups = looks;
+      in_parts = subst (λ (is : List Item). ReadsInParts P no_codes is reads) (sym (append-nil (map OfSetup setups))) h;
+    };
     alone = alone;
   }
 
@@ -79,31 +81,36 @@ module _ (P : Program) where
         let n : Noted = record { note = note; code = made.code } in
         let line : WarmLine = record { function = f; level = level } in
         let items = map OfSetup setups ++ map OfWarm warm in
-        let parts = parts_push (IsPart P no_codes) items (OfWarm note) old made.reads.0 h.in_parts made.reads.1 in
+        let acted = h.acted in
+        let parts = parts_push (IsPart P no_codes) items (OfWarm note) old made.reads.0 acted.in_parts made.reads.1 in
         let same : items ++ OfWarm note ∷ [] ≡ map OfSetup setups ++ map OfWarm (warm ++ note ∷ []) =
         append_assoc (map OfSetup setups) (map OfWarm warm) (OfWarm note ∷ [])
         ∙ ap (λ (l : List Item). map OfSetup setups ++ l) (sym (map_push OfWarm warm note)) in
         record {
-          are_warm =
-              subst (λ (ls : List WarmLine). AllZip IsWarmOf ls (warm ++ note ∷ [])) (sym (lines_append begun (Warm f level ∷ [])))
-              (zip_push IsWarmOf (warm_lines begun) warm line note h.are_warm made.is_line);
-          notes = notes_push P 0 v w warm made.works.learns h.notes n made.works.cause made.works.taken;
-          lookups = made.works.lookups ∙ h.lookups;
-          in_parts =
-              subst (λ (is : List Item). ReadsInParts P no_codes is new) same
-              (subst (λ (l : List Read). ReadsInParts P no_codes (items ++ OfWarm note ∷ []) l) (sym made.reads.2) parts);
+          acted = record {
+            are_warm =
+                subst (λ (ls : List WarmLine). AllZip IsWarmOf ls (warm ++ note ∷ [])) (sym (lines_append begun (Warm f level ∷ [])))
+                (zip_push IsWarmOf (warm_lines begun) warm line note acted.are_warm made.is_line);
+            notes = notes_push P 0 [] v w warm made.works.learns acted.notes n made.works.cause made.works.taken made.works.outcomes;
+            lookups = made.works.lookups ∙ acted.lookups;
+            in_parts =
+                subst (λ (is : List Item). ReadsInParts P no_codes is new) same
+                (subst (λ (l : List Read). ReadsInParts P no_codes (items ++ OfWarm note ∷ []) l) (sym made.reads.2) parts);
+          };
           alone = alone_later v w warm note h.alone made.works.alone;
         }
 
     -- a hint needs no work
     pub warm_skip : (s : Setup) → warm_lines (s ∷ []) ≡ [] → Prepared P setups (begun ++ s ∷ []) warm v old
     warm_skip s none = record {
-      are_warm =
-          subst (λ (ls : List WarmLine). AllZip IsWarmOf ls warm)
-          (sym (lines_append begun (s ∷ []) ∙ ap (λ (l : List WarmLine). warm_lines begun ++ l) none ∙ append-nil (warm_lines begun))) h.are_warm;
-      notes = h.notes;
-      lookups = h.lookups;
-      in_parts = h.in_parts;
+      acted = record {
+        are_warm =
+            subst (λ (ls : List WarmLine). AllZip IsWarmOf ls warm)
+            (sym (lines_append begun (s ∷ []) ∙ ap (λ (l : List WarmLine). warm_lines begun ++ l) none ∙ append-nil (warm_lines begun))) h.acted.are_warm;
+        notes = h.acted.notes;
+        lookups = h.acted.lookups;
+        in_parts = h.acted.in_parts;
+      };
       alone = h.alone;
     }
 

@@ -53,27 +53,27 @@ began_new n size P s h code profile =
 module _ (P : Program) (size : ℕ) where
   -- a caller that has made its calls, and told that it has finished
   pub caller_stands : (floor : List Look) (calls : List Begun) (reports : List Report) (s : CodeSeat) (t : ProfileSeat) (old : List Read) (found : ℕ)
-      → AreSplitOff P size s t → (view_of s).taken ≡ 0 → CallsMade P floor calls reports (view_of s) old →
+      → AreSplitOff P size s t → (view_of s).taken ≡ 0 → (view_of s).outcomes ≡ [] → CallsMade P floor calls reports (view_of s) old →
       counts.reads_of t ≡ old ++ add_one word.Finished found ∷ []
       → RoleStands P size (Caller calls floor) reports [] s t
-  caller_stands floor calls reports s t old found off none h e = record {
+  caller_stands floor calls reports s t old found off none empty h e = record {
     seats = off;
     looks = looks_of reports;
     lookups = h.lookups;
     is_record = calls_done P floor calls reports (view_of s) old (counts.reads_of t) found h off.reliable e;
-    notes = notes_none P 0 (view_of s) none;
+    notes = notes_none P 0 [] (view_of s) none empty;
   }
 
   -- a worker that has found that all callers have finished, where its seats had gained nothing when it began
   pub worker_stands : (callers : ℕ) (work : List WorkNote) (v : View) (s : CodeSeat) (t : ProfileSeat)
-      → AreSplitOff P size s t → v.lookups ≡ [] → v.taken ≡ 0 → TurnsDone P callers work v (view_of s) [] (counts.reads_of t)
-      → RoleStands P size (Worker callers) [] work s t
-  worker_stands callers work v s t off looks none h = record {
+      → AreSplitOff P size s t → v.lookups ≡ [] → v.taken ≡ 0 → v.outcomes ≡ []
+      → TurnsDone P callers work v (view_of s) [] (counts.reads_of t) → RoleStands P size (Worker callers) [] work s t
+  worker_stands callers work v s t off looks none empty h = record {
     seats = off;
     looks = [];
     lookups = h.turns.on.lookups ∙ looks;
     is_record = turns_record P callers work v (view_of s) (counts.reads_of t) h;
-    notes = notes_of_turns P callers work v (view_of s) [] h.made none h.turns;
+    notes = notes_of_turns P callers work v (view_of s) [] h.made none empty h.turns;
   }
 
   -- after the joins, with the seat confirmed

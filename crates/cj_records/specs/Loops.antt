@@ -34,11 +34,15 @@ pub record WorkedAlone (v : View) (notes : List WorkNote) : Type 0 where
   pub seen : SeesPublished v notes
 
 -- the hints of all setups are set, and the `warm` lines among these are compiled
-pub record Prepared (P : Program) (setups begun : List Setup) (warm : List WorkNote) (v : View) (reads : List Read) : Type 0 where
+pub record SetupsActed (P : Program) (setups begun : List Setup) (warm : List WorkNote) (v : View) (reads : List Read) : Type 0 where
   pub are_warm : AreWarm begun warm
   pub notes : NotesStand P v warm
   pub lookups : v.lookups ≡ []
   pub in_parts : ReadsInParts P no_codes (map OfSetup setups ++ map OfWarm warm) reads
+
+-- so they are at the only seat that there ever was
+pub record Prepared (P : Program) (setups begun : List Setup) (warm : List WorkNote) (v : View) (reads : List Read) : Type 0 where
+  pub acted : SetupsActed P setups begun warm v reads
   pub alone : WorkedAlone v warm
 
 -- A store whose setups have acted: no seats but its two ever were, and no words are claimed.

@@ -56,11 +56,12 @@ module _ (t : CodeTable) (p : Profile) (s : CodeSeat) (q : ProfileSeat) (new : A
     module _ (calls : List ScriptCall) (profile : counts.Belongs p q') (done : RoleDone) (done_code : done.code_seat ≡ s') (done_profile : done.profile_seat
         ≡ q') where
       pub caller_ends : (first callers found : ℕ) (old : List Read) (taken : (view_of s').taken ≡ (view_of s).taken)
+          (ended : (view_of s').outcomes ≡ (view_of s).outcomes)
           → ((floor : List Look) → CallsMade (program_of t) floor [] [] (view_of s) (counts.reads_of q) →
           CallsMade (program_of t) floor (map begun (share callers first calls)) done.reports.items (view_of s') old)
           → counts.reads_of q' ≡ old ++ add_one word.Finished found ∷ [] → done.work ≡ []
           → RoleEnds calls t p (view_of s) (role.Caller first callers) done
-      caller_ends first callers found old taken runs reads none = record {
+      caller_ends first callers found old taken ended runs reads none = record {
         code = subst (Belongs t) (sym done_code) code;
         code_first = ap (λ (x : CodeSeat). x.first) done_code ∙ same.first ∙ new.code_first;
         free = ap (λ (x : CodeSeat). (view_of x).claim) done_code ∙ free;
@@ -68,7 +69,7 @@ module _ (t : CodeTable) (p : Profile) (s : CodeSeat) (q : ProfileSeat) (new : A
         profile_first = ap (λ (x : ProfileSeat). x.first) done_profile ∙ counted.first ∙ new.is_new.is_first;
         stands = λ (floor : List Look) (seen : All (IsSeen (view_of s)) floor). rw (done_code, done_profile, none)
             (caller_stands (program_of t) (key_of t).size floor (map begun (share callers first calls)) done.reports.items s' q' old found split_off
-            (taken ∙ new.taken)
+            (taken ∙ new.taken) (ended ∙ new.outcomes)
             (runs floor (calls_none (program_of t) floor (view_of s) (counts.reads_of q) seen new.lookups new.is_new.reads)) reads);
       }
 
@@ -82,7 +83,7 @@ module _ (t : CodeTable) (p : Profile) (s : CodeSeat) (q : ProfileSeat) (new : A
         profile = subst (counts.Belongs p) (sym done_profile) profile;
         profile_first = ap (λ (x : ProfileSeat). x.first) done_profile ∙ counted.first ∙ new.is_new.is_first;
         stands = λ (floor : List Look) (seen : All (IsSeen (view_of s)) floor). rw (done_code, done_profile, none)
-            (worker_stands (program_of t) (key_of t).size callers done.work (view_of s) s' q' split_off new.lookups new.taken
+            (worker_stands (program_of t) (key_of t).size callers done.work (view_of s) s' q' split_off new.lookups new.taken new.outcomes
             (subst (λ (rs : List Read). TurnsDone (program_of t) callers done.work (view_of s) (view_of s') rs (counts.reads_of q')) new.is_new.reads turns));
       }
 
@@ -109,12 +110,13 @@ module _ (shared : Shared) (run : IsRun shared) (s : CodeSeat) (q : ProfileSeat)
       let same : IsSame s last.code_seat = subst (λ (x : CodeSeat). IsSame x last.code_seat) seats.0 stays.code_same in
       let joined : (view_of last.code_seat).joined ≡ (view_of s).joined = stays.joined ∙ ap (λ (x : CodeSeat). (view_of x).joined) seats.0 in
       let taken : (view_of last.code_seat).taken ≡ (view_of s).taken = stays.taken ∙ ap (λ (x : CodeSeat). (view_of x).taken) seats.0 in
+      let ended : (view_of last.code_seat).outcomes ≡ (view_of s).outcomes = stays.outcomes ∙ ap (λ (x : CodeSeat). (view_of x).outcomes) seats.0 in
       let counted_on : counts.IsSame q q' = counts_same_on q last.profile_seat q'
       (subst (λ (x : ProfileSeat). counts.IsSame x last.profile_seat) seats.1 stays.profile_same) counted in
       let program : start.checked.now ≡ program_of T = tables.0 ∙ sym run.program in
       let cs : List Begun = map begun (share callers first shared.calls.now) in
       caller_ends T shared.profile.now s q new run.one_slot last.code_seat q' code same joined ready.free counted_on shared.calls.now own done at_code
-      at_profile first callers found (counts.reads_of last.profile_seat) taken
+      at_profile first callers found (counts.reads_of last.profile_seat) taken ended
       (λ (floor : List Look) (k : CallsMade (program_of T) floor [] [] (view_of s) (counts.reads_of q)).
       subst (λ (P : Program). CallsMade P floor cs done.reports.items (view_of last.code_seat) (counts.reads_of last.profile_seat)) program
       (runs floor (subst (λ (z : Program × CodeSeat × ProfileSeat). CallsMade z.0 floor [] [] (view_of z.1) (counts.reads_of z.2))

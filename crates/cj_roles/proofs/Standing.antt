@@ -351,7 +351,7 @@ module _ (input : Input) (callers workers : ℕ) (warm : List WorkNote) (a b : S
   joined_so_far =
       let e = dealt_to.split.view in
       let over = over_of 0 1048576 Q a prepared.store in
-      let p = prepared.prepared in
+      let p = prepared.prepared.acted in
       let zeros : FromZeros (counts.reads_of a.profile_seat) = prepared.store.profile.starts prepared.profile_sole in
       joined_none Q 1048576 input.script.setups warm v (counts.reads_of b.profile_seat) (counts.joined_of b.profile_seat)
       (record {
@@ -363,7 +363,7 @@ module _ (input : Input) (callers workers : ℕ) (warm : List WorkNote) (a b : S
       })
       (record {
         are_warm = p.are_warm;
-        notes = notes_later Q 0 u v warm (shared_learns u v e) p.notes (ap (λ (x : View). x.taken) e);
+        notes = notes_later Q 0 [] u v warm (shared_learns u v e) p.notes (ap (λ (x : View). x.taken) e) (ap (λ (x : View). x.outcomes) e);
         lookups = ap (λ (x : View). x.lookups) e ∙ p.lookups;
         in_parts = subst (λ (rs : List Read). ReadsInParts Q no_codes (map OfSetup input.script.setups ++ map OfWarm warm) rs)
             (sym dealt_to.split.reads) p.in_parts;
@@ -383,7 +383,7 @@ module _ (input : Input) (callers workers : ℕ) (warm : List WorkNote) (a b : S
       (counts.joined_of b.profile_seat) =
       subst (λ (z : Program × ℕ). Joined z.0 z.1 input.script.setups warm [] v (counts.reads_of b.profile_seat) (counts.joined_of b.profile_seat))
       (λ i. (sym program i, sym size i)) joined_so_far in
-      let after = joins.joins input.script.calls u (roles_in callers workers) input.script.setups floor ends (published_seen Q u warm prepared.prepared.notes)
+      let after = joins.joins input.script.calls u (roles_in callers workers) input.script.setups floor ends (published_seen Q u warm prepared.prepared.acted.notes)
       before in
       let all : HasJoined Q 1048576 input.script.setups warm (map (role_of input.script.calls floor) (roles_in callers workers)) answers c =
       subst (λ (z : Program × ℕ). HasJoined z.0 z.1 input.script.setups warm (map (role_of input.script.calls floor) (roles_in callers workers)) answers c)

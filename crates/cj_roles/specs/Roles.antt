@@ -62,6 +62,7 @@ pub record AreNew (t : CodeTable) (p : Profile) (s : CodeSeat) (q : ProfileSeat)
   pub free : (view_of s).claim ≡ None
   pub lookups : (view_of s).lookups ≡ []
   pub taken : (view_of s).taken ≡ 0
+  pub outcomes : (view_of s).outcomes ≡ []
   pub joined : (view_of s).joined ≡ []
   pub profile : counts.Belongs p q
   pub is_new : counts.IsNew false q

@@ -90,7 +90,7 @@ told_found a b f args (Err e) look went = inr (record {
 -- ---- what stays
 
 pub looks_nothing : (v : View) → Looks v v
-looks_nothing v = record { learns = learns_nothing v; claim = refl; taken = refl; joined = refl; alone = λ sole. finds_none v sole }
+looks_nothing v = record { learns = learns_nothing v; claim = refl; taken = refl; outcomes = refl; joined = refl; alone = λ sole. finds_none v sole }
 
 -- a lookup, where what it found is seen
 pub looks_by_lookup : (v u w : View) (f : Cell) (r : ℕ) (x : Cell × ℕ) → Sees v f r u → w ≡ with_look u x → Learns v w → w.sole ≡ v.sole
@@ -99,6 +99,7 @@ looks_by_lookup v u w f r x sees e learns sole no_more = record {
   learns = learns;
   claim = ap (λ (y : View). y.claim) e ∙ same (λ (y : View). y.claim) (λ rs. refl);
   taken = ap (λ (y : View). y.taken) e ∙ same (λ (y : View). y.taken) (λ rs. refl);
+  outcomes = ap (λ (y : View). y.outcomes) e ∙ same (λ (y : View). y.outcomes) (λ rs. refl);
   joined = ap (λ (y : View). y.joined) e ∙ same (λ (y : View). y.joined) (λ rs. refl);
   alone = finds_nothing v w sole no_more;
 }
@@ -113,6 +114,7 @@ looks_by_fetch u v w h g learns = record {
   learns = learns_twice u v w h.learns learns;
   claim = g.claim ∙ h.claim;
   taken = g.taken ∙ h.taken;
+  outcomes = g.outcomes ∙ h.outcomes;
   joined = g.joined ∙ h.joined;
   alone = λ sole. let first = h.alone sole in finds_twice [] [] u v w first (finds_nothing v w g.sole (λ _. g.no_more) first.sole);
 }
@@ -128,6 +130,7 @@ stays_by a b marks checked table profile code_same profile_same looks went = rec
   profile_same = profile_same;
   claim = looks.claim;
   taken = looks.taken;
+  outcomes = looks.outcomes;
   joined = looks.joined;
   marks = marks;
   went = went;

@@ -47,6 +47,7 @@ module _ (call : Begun) (a b : Session) where
         learns = w.learns;
         claim = stays.claim;
         taken = stays.taken;
+        outcomes = stays.outcomes;
         joined = stays.joined;
         trail = w.trail ∙ ap (λ (l : List Look). (view_in a).lookups ++ map looked l) looks;
         floor = subst (All (IsNotOlder (view_in a))) looks w.floor;
@@ -74,6 +75,7 @@ module _ (call : Begun) (a b : Session) where
         learns = w.learns;
         claim = stays.claim;
         taken = stays.taken;
+        outcomes = stays.outcomes;
         joined = stays.joined;
         looks = once.more;
         trail = w.trail ∙ ap (λ (l : List Look). (view_in a).lookups ++ map looked l) looks;

@@ -77,6 +77,7 @@ stays_same s = record {
   profile_same = record { first = refl; sole = refl; splits = refl; joined = refl };
   claim = refl;
   taken = refl;
+  outcomes = refl;
   joined = refl;
   marks = [];
   went = went_nowhere s;
@@ -91,6 +92,7 @@ stays_on a b c g h = record {
   profile_same = profile_same_on a.profile_seat b.profile_seat c.profile_seat g.profile_same h.profile_same;
   claim = h.claim ∙ g.claim;
   taken = h.taken ∙ g.taken;
+  outcomes = h.outcomes ∙ g.outcomes;
   joined = h.joined ∙ g.joined;
   marks = g.marks ++ h.marks;
   went = went_on a b c g.marks h.marks g.went h.went;

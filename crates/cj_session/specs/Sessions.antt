@@ -50,6 +50,7 @@ pub record Looks (v w : View) : Type 0 where
   pub learns : Learns v w
   pub claim : w.claim ≡ v.claim
   pub taken : w.taken ≡ v.taken
+  pub outcomes : w.outcomes ≡ v.outcomes
   pub joined : w.joined ≡ v.joined
   pub alone : v.sole ≡ true → FindsNothingNew [] v w
 
@@ -88,6 +89,7 @@ pub record Stays (a b : Session) : Type 0 where
   pub profile_same : counts.IsSame a.profile_seat b.profile_seat
   pub claim : (view_in b).claim ≡ (view_in a).claim
   pub taken : (view_in b).taken ≡ (view_in a).taken
+  pub outcomes : (view_in b).outcomes ≡ (view_in a).outcomes
   pub joined : (view_in b).joined ≡ (view_in a).joined
   pub marks : List Mark
   pub went : Went a b marks

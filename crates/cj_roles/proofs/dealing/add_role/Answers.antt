@@ -27,6 +27,7 @@ returns c =
             free = ap (λ (v : View). v.claim) code.given.0;
             lookups = ap (λ (v : View). v.lookups) code.given.0;
             taken = ap (λ (v : View). v.taken) code.given.0;
+            outcomes = ap (λ (v : View). v.outcomes) code.given.0;
             joined = ap (λ (v : View). v.joined) code.given.0;
             profile = profile.own.1;
             is_new = profile.new;
