@@ -1,5 +1,5 @@
 -- A worker's turns, one by one.
-use Rattle.std.proofs.Common.{◌≡◌, ◌∙◌, refl, sym, ap, subst, ℕ, ◌≤◌, ◌<◌, List, [], ◌∷◌, ◌++◌, append-nil, append_assoc}
+use Rattle.std.proofs.Common.{◌≡◌, ◌∙◌, refl, sym, ap, subst, ℕ, ◌≤◌, ◌<◌, List, [], ◌∷◌, ◌++◌, length, inl, inr, append-nil, append_assoc}
 use Rattle.std.proofs.lemmas.List.Elements.{All-nil, All-push}
 use Rattle.cj_ir.specs.declared.language.Program.{Program}
 use Rattle.cj_profile.specs.declared.view.Read.{Read}
@@ -11,8 +11,8 @@ use Rattle.cj_publish.specs.Learns.{learns_nothing, learns_twice}
 use Rattle.cj_notes.specs.declared.notes.WorkNote.{WorkNote}
 use Rattle.cj_notes.specs.Causes.{kept}
 use Rattle.cj_notes.specs.Standing.{NotesStand, NotesAdd}
-use Rattle.cj_notes.specs.Works.{WorkedOne}
-use Rattle.cj_notes.specs.Turns.{Turn, IsTurn, kept_notes, turn_reads, TurnsMade, TurnsDone}
+use Rattle.cj_notes.specs.Works.{WorkedOne, WorkFailed}
+use Rattle.cj_notes.specs.Turns.{Turn, IsTurn, kept_notes, turn_reads, TurnsMade, TurnsDone, TurnsLost}
 use Rattle.cj_notes.proofs.Standing.{notes_none, notes_kept}
 
 kept_push : (xs : List Turn) (t : Turn) → kept_notes (xs ++ t ∷ []) ≡ kept_notes xs ++ kept t.note
@@ -66,6 +66,25 @@ module _ (P : Program) (callers : ℕ) where
     -- the last look
     pub turns_done : (new : List Read) (last : ℕ) → callers ≤ last → new ≡ old ++ load word.Finished last ∷ [] → TurnsDone P callers work u v first new
     turns_done new last all e = record { made = old; turns = h; last = last; finished = all; reads = e }
+
+    -- no room for the last note
+    pub last_note_lost : 1 ≤ length work → TurnsLost P callers u v first old
+    last_note_lost some = record { work = work; made = old; turns = h; rest = []; last = inl (some, refl); reads = sym (append-nil old) }
+
+    -- a look more, and then a job that is lost
+    pub last_job_lost : (w : View) (mid new : List Read) (finished : ℕ) → finished < callers → mid ≡ old ++ load word.Finished finished ∷ []
+        → WorkFailed P v w mid new → TurnsLost P callers u w first new
+    last_job_lost w mid new finished few loaded lost =
+        let seen : Read = load word.Finished finished in
+        let part = lost.reads.0 in
+        record {
+          work = work;
+          made = old;
+          turns = subst (λ (x : View). TurnsMade P callers work u x first old) (sym lost.same) h;
+          rest = seen ∷ part;
+          last = inr (finished, part, few, lost.reads.1, refl);
+          reads = lost.reads.2 ∙ ap (λ (l : List Read). l ++ part) loaded ∙ append_assoc old (seen ∷ []) part;
+        }
 
   -- the notes of a seat that had claimed nothing
   pub notes_of_turns : (work : List WorkNote) (v w : View) (old new : List Read) → v.taken ≡ 0 → v.outcomes ≡ []

@@ -1,5 +1,5 @@
 -- The turns of a worker that works until all callers have finished.
-use Rattle.std.specs.Prelude.{◌≡◌, ℕ, ◌<◌, ◌≤◌, List, [], ◌∷◌, ◌++◌, All}
+use Rattle.std.specs.Prelude.{◌≡◌, ℕ, ◌<◌, ◌≤◌, List, [], ◌∷◌, ◌++◌, ◌⊎◌, length, All}
 use Rattle.cj_ir.specs.declared.language.Program.{Program}
 use Rattle.cj_profile.specs.declared.view.Read.{Read}
 use Rattle.cj_profile.specs.declared.layout.Word.TheVariants as word
@@ -9,7 +9,7 @@ use Rattle.cj_publish.specs.Learns.{Learns}
 use Rattle.cj_notes.specs.declared.notes.WorkNote.{WorkNote}
 use Rattle.cj_notes.specs.Causes.{kept}
 use Rattle.cj_notes.specs.Standing.{NotesAdd}
-use Rattle.cj_notes.specs.JobParts.{WorkPart}
+use Rattle.cj_notes.specs.JobParts.{WorkPart, LostJob}
 
 -- fewer callers had finished than there are, and one work was done
 pub record Turn : Type 0 where
@@ -52,3 +52,18 @@ pub record TurnsDone (P : Program) (callers : ℕ) (work : List WorkNote) (v w :
   pub last : ℕ
   pub finished : callers ≤ last
   pub reads : new ≡ made ++ load word.Finished last ∷ []
+
+-- fewer callers had finished than there are, and the job that was taken then is lost
+abbrev pub IsLostTurn : Program → ℕ → List Read → Type 0
+IsLostTurn P callers rs =
+    (finished : ℕ) × (part : List Read) × (finished < callers) × LostJob P part × (rs ≡ load word.Finished finished ∷ part)
+
+-- Memory ran out. So many turns were made, and their notes are lost. Behind them comes nothing, where there was no room for
+-- the last note; or a turn whose job is lost, and which claimed and wrote nothing.
+pub record TurnsLost (P : Program) (callers : ℕ) (v w : View) (old new : List Read) : Type 0 where
+  pub work : List WorkNote
+  pub made : List Read
+  pub turns : TurnsMade P callers work v w old made
+  pub rest : List Read
+  pub last : ((1 ≤ length work) × (rest ≡ [])) ⊎ IsLostTurn P callers rest
+  pub reads : new ≡ made ++ rest

@@ -1,5 +1,6 @@
 -- What stays over several calls.
-use Rattle.std.proofs.Common.{◌≡◌, ◌∙◌, refl, sym, subst, ℕ, true, false, List, []}
+use Rattle.std.specs.Prelude.{Result, Ok, Err, OnErr}
+use Rattle.std.proofs.Common.{◌≡◌, ◌∙◌, refl, sym, subst, inl, inr, ℕ, true, false, List, []}
 use Rattle.cj_publish.specs.declared.view.View.{View}
 use Rattle.cj_publish.specs.declared.seats.CodeSeat.{CodeSeat}
 use Rattle.cj_publish.specs.Seats.{IsSame}
@@ -8,11 +9,11 @@ use Rattle.cj_profile.specs.Seats as counts
 use Rattle.cj_publish.specs.Learns.{learns_nothing, learns_twice}
 use Rattle.cj_ir.specs.declared.language.Program.{Program}
 use Rattle.cj_notes.specs.declared.notes.WorkNote.{WorkNote}
-use Rattle.cj_notes.specs.Works.{WorkedOne}
-use Rattle.cj_notes.specs.Turns.{WorksOn, TurnsMade, TurnsDone}
-use Rattle.cj_notes.proofs.Turning.{turns_none, turns_push, turns_done}
+use Rattle.cj_notes.specs.Works.{WorkedOne, WorkFailed}
+use Rattle.cj_notes.specs.Turns.{WorksOn, TurnsMade, TurnsDone, TurnsLost}
+use Rattle.cj_notes.proofs.Turning.{turns_none, turns_push, turns_done, last_note_lost, last_job_lost}
 use Rattle.cj_worker.specs.declared.worker.Worker.{Worker}
-use Rattle.cj_worker.specs.Workers.{program_in, view_in, reads_in, Stays, TurnMade}
+use Rattle.cj_worker.specs.Workers.{program_in, view_in, reads_in, Stays, TurnMade, TurnLost}
 
 code_twice : (a b c : CodeSeat) → IsSame a b → IsSame b c → IsSame a c
 code_twice a b c g h = record { table = h.table ∙ g.table; first = h.first ∙ g.first; splits = h.splits ∙ g.splits; sole = h.sole ∙ g.sole }
@@ -66,3 +67,18 @@ module _ (callers : ℕ) (before after : List WorkNote) (first a b : Worker) (st
       let done = turns_done (program_in first) callers before (view_in first) (view_in a) (reads_in first) (reads_in a) h (reads_in b) finished all loaded in
       let seen = subst (λ (v : View). TurnsDone (program_in first) callers before (view_in first) v (reads_in first) (reads_in b)) (sym still) done in
       subst (λ (l : List WorkNote). TurnsDone (program_in first) callers l (view_in first) (view_in b) (reads_in first) (reads_in b)) (sym same) seen
+
+pub lost_turn : (callers : ℕ) (before : List WorkNote) (first a b : Worker) → Stays first a → MadeSince callers before first a → TurnLost callers before a b
+    → TurnsLost (program_in first) callers (view_in first) (view_in b) (reads_in first) (reads_in b)
+lost_turn callers before first a b stays h (inl (after, some, made)) =
+    last_note_lost (program_in first) callers after (view_in first) (view_in b) (reads_in first) (reads_in b)
+    (one_turn callers before after first a b stays h made) some
+lost_turn callers before first a b stays h (inr (finished, few, mid, loaded, failed)) =
+    let same : WorkFailed (program_in first) (view_in a) (view_in b) mid (reads_in b) = subst
+    (λ (P : Program). WorkFailed P (view_in a) (view_in b) mid (reads_in b)) stays.checked failed in
+    last_job_lost (program_in first) callers before (view_in first) (view_in a) (reads_in first) (reads_in a) h (view_in b) mid (reads_in b)
+    finished few loaded same
+
+pub where_lost : {T E P : Type 0} (r : Result T E) → P → OnErr r P
+where_lost (Ok x) h = tt
+where_lost (Err e) h = h

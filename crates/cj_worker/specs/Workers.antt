@@ -1,5 +1,5 @@
 -- A worker and its seats.
-use Rattle.std.specs.Prelude.{◌≡◌, ℕ, ◌<◌, ◌≤◌, Bool, true, false, None, List, [], ◌∷◌, ◌++◌}
+use Rattle.std.specs.Prelude.{◌≡◌, ℕ, ◌<◌, ◌≤◌, Bool, true, false, None, List, [], ◌∷◌, ◌++◌, ◌⊎◌, length}
 use Rattle.cj_ir.specs.declared.language.Program.{Program}
 use Rattle.cj_profile.specs.Seats as counts
 use Rattle.cj_profile.specs.Reads.{load}
@@ -9,7 +9,7 @@ use Rattle.cj_publish.specs.declared.view.View.{View}
 use Rattle.cj_publish.specs.Seats.{view_of, key_of, program_of, Belongs, IsSame}
 use Rattle.cj_notes.specs.declared.notes.WorkNote.{WorkNote}
 use Rattle.cj_notes.specs.Causes.{kept}
-use Rattle.cj_notes.specs.Works.{WorkedOne}
+use Rattle.cj_notes.specs.Works.{WorkedOne, WorkFailed}
 use Rattle.cj_worker.specs.declared.worker.Worker.{Worker}
 
 abbrev pub program_in : Worker → Program
@@ -51,3 +51,11 @@ TurnMade callers true before after a b =
 TurnMade callers false before after a b =
     (finished : ℕ) × (finished < callers) × (note : WorkNote) × (after ≡ before ++ kept note)
     × (mid : List Read) × Loaded finished (reads_in a) mid × WorkedOne (program_in a) note (view_in a) (view_in b) mid (reads_in b)
+
+-- Memory ran out: the turn was made, but there was no room for its note; or a look found fewer callers than there are, and
+-- the job that was taken then is lost.
+abbrev pub TurnLost : ℕ → List WorkNote → Worker → Worker → Type 0
+TurnLost callers before a b =
+    ((after : List WorkNote) × (1 ≤ length after) × TurnMade callers false before after a b)
+    ⊎ ((finished : ℕ) × (finished < callers) × (mid : List Read) × Loaded finished (reads_in a) mid
+    × WorkFailed (program_in a) (view_in a) (view_in b) mid (reads_in b))

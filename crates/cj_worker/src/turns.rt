@@ -1,9 +1,9 @@
 //! A worker's turns.
 
-ghost use Rattle.std.specs.Prelude.{◌≡◌, ◌++◌, true, false, IfOk, OnOk, OnErr};
+ghost use Rattle.std.specs.Prelude.{◌≡◌, ◌≤◌, ◌++◌, true, false, length, IfOk, OnOk, OnErr};
 ghost use Rattle.cj_notes.specs.Causes.{kept};
-ghost use Rattle.cj_notes.specs.Turns.{WorksOn, TurnsDone};
-ghost use Rattle.cj_worker.specs.Workers.{program_in, view_in, reads_in, IsReady, Stays, TurnMade};
+ghost use Rattle.cj_notes.specs.Turns.{WorksOn, TurnsDone, TurnsLost};
+ghost use Rattle.cj_worker.specs.Workers.{program_in, view_in, reads_in, IsReady, Stays, TurnMade, TurnLost};
 
 use crate::worker::Worker;
 use cj_io::Gate;
@@ -26,6 +26,7 @@ impl Worker<'_> {
         ensures stays { Stays self.old self.new }
         ensures works_on { WorksOn (view_in self.old) (view_in self.new) }
         ensures done { IfOk result (λ work. TurnsDone (program_in self.old) callers work (view_in self.old) (view_in self.new) (reads_in self.old) (reads_in self.new)) }
+        ensures lost { OnErr result (TurnsLost (program_in self.old) callers (view_in self.old) (view_in self.new) (reads_in self.old) (reads_in self.new)) }
     {
         let mut work = Works::new(self.alloc);
         for _ in rt.forever() {
@@ -43,6 +44,7 @@ impl Worker<'_> {
         ensures stays { Stays self.old self.new }
         ensures works_on { WorksOn (view_in self.old) (view_in self.new) }
         ensures made { IfOk result (λ all. TurnMade callers all work.old work.new self.old self.new) }
+        ensures lost { OnErr result (TurnLost callers work.old self.old self.new) }
     {
         if self.profile.finished(&mut self.profile_seat) >= callers {
             return Ok(true);
@@ -57,6 +59,7 @@ impl Worker<'_> {
 #[tactic(auto, unfolding(cj_notes::specs::Causes::kept))]
 fn keep<G: Gate>(work: &mut Works, note: WorkNote, gate: &G) -> Result<(), NoMemory>
     ensures kept { OnOk result (work.new ≡ work.old ++ kept note) }
+    ensures lost { OnErr result (1 ≤ length (work.old ++ kept note)) }
 {
     match note {
         WorkNote::NoneAsked => {

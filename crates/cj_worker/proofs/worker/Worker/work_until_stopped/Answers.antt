@@ -1,6 +1,6 @@
 use Rattle.std.proofs.Common.{Bool, subst}
 use Rattle.cj_worker.specs.Workers.{TurnMade}
-use Rattle.cj_worker.proofs.Turning.{stays_same, stays_twice, no_turn, one_turn}
+use Rattle.cj_worker.proofs.Turning.{stays_same, stays_twice, no_turn, one_turn, lost_turn, where_lost}
 use Rattle.cj_worker.proofs.worker.Worker.work_until_stopped.Goals as goal
 
 pub loop-init : goal.loop-init
@@ -20,3 +20,9 @@ loop-preserved g c =
       stays = stays_twice c.args.self.now c.loop.self c.turn.new.self i.stays h.stays;
       turns = one_turn c.args.callers c.loop.work c.turn.new.work c.args.self.now c.loop.self c.turn.new.self i.stays i.turns made;
     }
+
+pub returns-in_err-turn-clause-lost : goal.returns-in_err-turn-clause-lost
+returns-in_err-turn-clause-lost g c =
+    let i = c.loop.invariant in
+    where_lost c.from_residual.result
+    (lost_turn c.args.callers c.loop.work c.args.self.now c.loop.self c.turn.new.self i.stays i.turns c.in_err-turn.ensures.lost)
