@@ -6,7 +6,7 @@ use Rattle.cj_base.specs.Run.{Begun}
 use Rattle.cj_calls.specs.declared.report.Report.{Report}
 use Rattle.cj_profile.specs.declared.view.Read.{Read}
 use Rattle.cj_publish.specs.declared.view.View.{View}
-use Rattle.cj_parts.specs.Calls.{Ran}
+use Rattle.cj_parts.specs.Runs.{Ran}
 use Rattle.cj_notes.specs.declared.notes.WorkNote.{WorkNote}
 use Rattle.cj_notes.specs.Works.{WorkedOne}
 use Rattle.cj_records.specs.Loops.{Prepared, RoundsShow}

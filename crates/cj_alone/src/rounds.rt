@@ -3,7 +3,7 @@
 ghost use Rattle.std.specs.Prelude.{◌≡◌, [], map, All, IfOk};
 ghost use Rattle.cj_script.specs.Fitting.{FitsCall};
 ghost use Rattle.cj_base.specs.Run.{begun};
-ghost use Rattle.cj_parts.specs.Calls.{Ran};
+ghost use Rattle.cj_parts.specs.Runs.{Ran};
 ghost use Rattle.cj_notes.specs.Works.{WorkedOne};
 ghost use Rattle.cj_session.specs.Versions.{AreKnown};
 ghost use Rattle.cj_alone.specs.Seats.{view_at, reads_at, IsFree, AreSame};

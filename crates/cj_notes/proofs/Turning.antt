@@ -12,7 +12,8 @@ use Rattle.cj_notes.specs.declared.notes.WorkNote.{WorkNote}
 use Rattle.cj_notes.specs.Causes.{kept}
 use Rattle.cj_notes.specs.Standing.{NotesStand, NotesAdd}
 use Rattle.cj_notes.specs.Works.{WorkedOne, WorkFailed}
-use Rattle.cj_notes.specs.Turns.{Turn, IsTurn, kept_notes, turn_reads, TurnsMade, TurnsDone, TurnsLost}
+use Rattle.cj_notes.specs.Turns.{Turn, IsTurn, kept_notes, turn_reads}
+use Rattle.cj_notes.specs.Waiting.{TurnsMade, TurnsDone, TurnsLost}
 use Rattle.cj_notes.proofs.Standing.{notes_none, notes_kept}
 
 kept_push : (xs : List Turn) (t : Turn) → kept_notes (xs ++ t ∷ []) ≡ kept_notes xs ++ kept t.note

@@ -4,3 +4,4 @@ pub mod Standing
 pub mod JobParts
 pub mod Works
 pub mod Turns
+pub mod Waiting

@@ -26,7 +26,8 @@ use Rattle.cj_publish.specs.Plays.{IsReliable}
 use Rattle.cj_publish.specs.Spelled.{SpellsVersion}
 use Rattle.cj_parts.specs.Known.{known_codes}
 use Rattle.cj_parts.specs.Looks.{looked, NeverFall, IsAbove, IsNotOlder, IsSeen}
-use Rattle.cj_parts.specs.Calls.{IsV, Stands, CallPart, Ran}
+use Rattle.cj_parts.specs.Calls.{IsV, Stands, CallPart}
+use Rattle.cj_parts.specs.Runs.{Ran}
 use Rattle.cj_parts.proofs.Known.{known_in, codes_grow}
 use Rattle.cj_parts.proofs.Growth.{call_grows}
 use Rattle.cj_parts.proofs.Rising.{looks_never_fall, not_older_is_above}

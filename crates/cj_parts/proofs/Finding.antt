@@ -10,7 +10,7 @@ use Rattle.cj_publish.specs.Plays.{FindsSeen}
 use Rattle.cj_publish.specs.Seen.{SeesNoMore}
 use Rattle.cj_publish.specs.Fetched.{main_of}
 use Rattle.cj_parts.specs.Looks.{IsSeen, FoundIn}
-use Rattle.cj_parts.specs.Calls.{FindsNothingNew}
+use Rattle.cj_parts.specs.Runs.{FindsNothingNew}
 
 pub finds_none : (v : View) → v.sole ≡ true → FindsNothingNew [] v v
 finds_none v sole = record { sole = sole; seen = λ f o x. x; found = All-nil (FoundIn v) }

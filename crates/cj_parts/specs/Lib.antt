@@ -3,3 +3,4 @@ pub mod PartsLaws
 pub mod Known
 pub mod Looks
 pub mod Calls
+pub mod Runs

@@ -22,7 +22,8 @@ ghost use Rattle.cj_publish.specs.Fetched.{main_of, HasVersion};
 ghost use Rattle.cj_parts.specs.Parts.{InParts, Among, MarkPart, Counts};
 ghost use Rattle.cj_parts.specs.Known.{known_codes};
 ghost use Rattle.cj_parts.specs.Looks.{looked, NeverFall, IsAbove, IsSeen, FoundIn};
-ghost use Rattle.cj_parts.specs.Calls.{IsV, Stands, CallPart, Ran};
+ghost use Rattle.cj_parts.specs.Calls.{IsV, Stands, CallPart};
+ghost use Rattle.cj_parts.specs.Runs.{Ran};
 
 use cj_machine::laws::reports_have_the_headline;
 

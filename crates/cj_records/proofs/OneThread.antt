@@ -15,7 +15,8 @@ use Rattle.cj_publish.specs.Reliable.{IsReliable}
 use Rattle.cj_parts.specs.PartsLaws.{parts_push, learns_twice}
 use Rattle.cj_parts.specs.Known.{known_codes}
 use Rattle.cj_parts.specs.Looks.{IsAbove, IsNewest, IsNotOlder, looks_of}
-use Rattle.cj_parts.specs.Calls.{IsV, Ran}
+use Rattle.cj_parts.specs.Calls.{IsV}
+use Rattle.cj_parts.specs.Runs.{Ran}
 use Rattle.cj_parts.proofs.Known.{codes_grow}
 use Rattle.cj_parts.proofs.Growth.{v_grows, zip_push}
 use Rattle.cj_parts.proofs.Rising.{looks_never_fall, trail_push}

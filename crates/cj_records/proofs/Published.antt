@@ -13,7 +13,7 @@ use Rattle.cj_publish.specs.Reliable.{IsReliable}
 use Rattle.cj_publish.specs.Fetched.{main_of, HasVersion}
 use Rattle.cj_parts.specs.Known.{known_codes}
 use Rattle.cj_parts.specs.Looks.{IsAbove, IsNewest, IsNotOlder, IsSeen, FoundIn}
-use Rattle.cj_parts.specs.Calls.{FindsNothingNew}
+use Rattle.cj_parts.specs.Runs.{FindsNothingNew}
 use Rattle.cj_codec.proofs.PointFormats.{all_both}
 use Rattle.cj_ir.proofs.Members.{contains-head}
 use Rattle.cj_parts.proofs.Known.{code_is}

@@ -21,7 +21,8 @@ use Rattle.cj_publish.specs.Fetched.{main_of}
 use Rattle.cj_parts.specs.PartsLaws.{parts_push}
 use Rattle.cj_parts.specs.Known.{known_codes}
 use Rattle.cj_parts.specs.Looks.{looks_of, IsAbove, IsNotOlder}
-use Rattle.cj_parts.specs.Calls.{Stands, Ran}
+use Rattle.cj_parts.specs.Calls.{Stands}
+use Rattle.cj_parts.specs.Runs.{Ran}
 use Rattle.cj_parts.proofs.Known.{codes_grow}
 use Rattle.cj_parts.proofs.Growth.{zip_push}
 use Rattle.cj_parts.proofs.Calling.{ran_above}
@@ -29,7 +30,7 @@ use Rattle.cj_parts.proofs.Rising.{looks_never_fall, looks_push, trail_push}
 use Rattle.cj_notes.specs.declared.notes.WorkNote.{WorkNote}
 use Rattle.cj_notes.specs.Causes.{Noted}
 use Rattle.cj_notes.specs.Works.{WarmLine, IsWarmOf, Warmed}
-use Rattle.cj_notes.specs.Turns.{TurnsDone}
+use Rattle.cj_notes.specs.Waiting.{TurnsDone}
 use Rattle.cj_notes.proofs.Standing.{notes_none, notes_push}
 use Rattle.cj_records.specs.Setups.{SetupPart, warm_lines}
 use Rattle.cj_records.specs.Items.{Item, OfSetup, OfWarm, OfCall, IsPart, ReadsInParts}

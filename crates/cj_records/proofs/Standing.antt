@@ -17,7 +17,7 @@ use Rattle.cj_publish.specs.Cells.{cells}
 use Rattle.cj_publish.specs.Seats.{view_of, IsSole}
 use Rattle.cj_parts.specs.Looks.{looks_of}
 use Rattle.cj_notes.specs.declared.notes.WorkNote.{WorkNote}
-use Rattle.cj_notes.specs.Turns.{TurnsDone}
+use Rattle.cj_notes.specs.Waiting.{TurnsDone}
 use Rattle.cj_notes.proofs.Standing.{notes_none}
 use Rattle.cj_notes.proofs.Turning.{notes_of_turns}
 use Rattle.cj_records.specs.declared.store.Store.{Store}

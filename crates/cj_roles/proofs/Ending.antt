@@ -18,7 +18,7 @@ use Rattle.cj_publish.specs.declared.seats.CodeTable.{CodeTable}
 use Rattle.cj_publish.specs.declared.seats.CodeSeat.{CodeSeat}
 use Rattle.cj_publish.specs.Seats.{view_of, key_of, program_of, Belongs, IsSame}
 use Rattle.cj_notes.specs.declared.notes.WorkNote.{WorkNote}
-use Rattle.cj_notes.specs.Turns.{WorksOn, TurnsDone}
+use Rattle.cj_notes.specs.Waiting.{WorksOn, TurnsDone}
 use Rattle.cj_records.specs.Loops.{IsSeen, CallsMade}
 use Rattle.cj_records.specs.Records.{AreSplitOff}
 use Rattle.cj_records.proofs.Roles.{calls_none}

@@ -24,7 +24,7 @@ use Rattle.cj_publish.specs.Fetched.{main_of}
 use Rattle.cj_parts.specs.Parts.{MarkPart}
 use Rattle.cj_parts.specs.PartsLaws.{one_part}
 use Rattle.cj_parts.specs.Looks.{IsNotOlder}
-use Rattle.cj_parts.specs.Calls.{FindsNothingNew}
+use Rattle.cj_parts.specs.Runs.{FindsNothingNew}
 use Rattle.cj_parts.proofs.Finding.{finds_none, finds_one, finds_nothing, finds_twice}
 use Rattle.cj_session.specs.declared.session.Session.{Session}
 use Rattle.cj_session.specs.Versions.{Entry, IsWholeIn, codes_in, EntriesKnown}

@@ -20,7 +20,8 @@ use Rattle.cj_parts.specs.Parts.{InParts, MarkPart}
 use Rattle.std.proofs.lemmas.List.{map-append, append_cancel_left}
 use Rattle.cj_parts.specs.Known.{known_codes}
 use Rattle.cj_parts.specs.Looks.{looked, IsNotOlder}
-use Rattle.cj_parts.specs.Calls.{Stands, FindsNothingNew, Ran, RanOut}
+use Rattle.cj_parts.specs.Calls.{Stands}
+use Rattle.cj_parts.specs.Runs.{FindsNothingNew, Ran, RanOut}
 use Rattle.cj_parts.proofs.Growth.{marks_grow, v_grows}
 
 looked_back : (looks : List Look) → map look_of (map looked looks) ≡ looks

@@ -14,7 +14,7 @@ use Rattle.cj_publish.specs.Fetched.{main_of}
 use Rattle.cj_publish.specs.Learns.{Learns}
 use Rattle.cj_parts.specs.Parts.{InParts, MarkPart}
 use Rattle.cj_parts.specs.Looks.{looked, IsNotOlder}
-use Rattle.cj_parts.specs.Calls.{FindsNothingNew}
+use Rattle.cj_parts.specs.Runs.{FindsNothingNew}
 use Rattle.cj_session.specs.declared.session.Session.{Session}
 use Rattle.cj_session.specs.Versions.{codes_in, AreKnown}
 

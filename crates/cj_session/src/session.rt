@@ -8,7 +8,7 @@ ghost use Rattle.cj_machine.specs.Memories.{base_memory, version_memory};
 ghost use Rattle.cj_profile.specs.Seats as counts;
 ghost use Rattle.cj_publish.specs.Seats.{view_of, key_of, program_of, Belongs};
 ghost use Rattle.cj_parts.specs.Known.{known_codes};
-ghost use Rattle.cj_parts.specs.Calls.{Ran, RanOut};
+ghost use Rattle.cj_parts.specs.Runs.{Ran, RanOut};
 ghost use Rattle.cj_session.specs.Versions.{AreKnown};
 ghost use Rattle.cj_session.specs.Sessions.{IsReady, Stays, view_in, reads_in};
 

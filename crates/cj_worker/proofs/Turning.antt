@@ -10,7 +10,7 @@ use Rattle.cj_publish.specs.Learns.{learns_nothing, learns_twice}
 use Rattle.cj_ir.specs.declared.language.Program.{Program}
 use Rattle.cj_notes.specs.declared.notes.WorkNote.{WorkNote}
 use Rattle.cj_notes.specs.Works.{WorkedOne, WorkFailed}
-use Rattle.cj_notes.specs.Turns.{WorksOn, TurnsMade, TurnsDone, TurnsLost}
+use Rattle.cj_notes.specs.Waiting.{WorksOn, TurnsMade, TurnsDone, TurnsLost}
 use Rattle.cj_notes.proofs.Turning.{turns_none, turns_push, turns_done, last_note_lost, last_job_lost}
 use Rattle.cj_worker.specs.declared.worker.Worker.{Worker}
 use Rattle.cj_worker.specs.Workers.{program_in, view_in, reads_in, Stays, TurnMade, TurnLost}

@@ -2,7 +2,7 @@
 
 ghost use Rattle.std.specs.Prelude.{◌≡◌, ◌≤◌, ◌++◌, true, false, length, IfOk, OnOk, OnErr};
 ghost use Rattle.cj_notes.specs.Causes.{kept};
-ghost use Rattle.cj_notes.specs.Turns.{WorksOn, TurnsDone, TurnsLost};
+ghost use Rattle.cj_notes.specs.Waiting.{WorksOn, TurnsDone, TurnsLost};
 ghost use Rattle.cj_worker.specs.Workers.{program_in, view_in, reads_in, IsReady, Stays, TurnMade, TurnLost};
 
 use crate::worker::Worker;

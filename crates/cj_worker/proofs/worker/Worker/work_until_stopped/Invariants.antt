@@ -1,4 +1,4 @@
-use Rattle.cj_notes.specs.Turns.{TurnsMade}
+use Rattle.cj_notes.specs.Waiting.{TurnsMade}
 use Rattle.cj_worker.specs.Workers.{program_in, view_in, reads_in, IsReady, Stays}
 use Rattle.cj_worker.proofs.worker.Worker.work_until_stopped.Given as goal
 
