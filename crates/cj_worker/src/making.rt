@@ -42,15 +42,47 @@ pub(crate) fn prepare(
     ensures reads { IfOk result (λ made. GainsPart (LooksAt checked.now (job_in made.0)) (reads_of seat.old) (reads_of seat.new)) }
     ensures lost { OnErr result (GainsPart (All Keeps) (reads_of seat.old) (reads_of seat.new)) }
 {
-    let snapshot = profile.snapshot(alloc, seat, f)?;
-    let (version, skipped) = version_for(alloc, checked, f, level, &snapshot)?;
-    let made = match spell(alloc, &version) {
-        Ok(words) => Made::Spelled { words, skipped },
-        Err(EncodeError::TooLarge { len }) => Made::TooLarge { len },
-        Err(EncodeError::NoMemory) => return Err(NoMemory),
-    };
-    let task = Task { f, level, snapshot };
+    let task = look(alloc, checked, profile, seat, f, level)?;
+    let made = make(alloc, checked, &task)?;
     Ok((task, made))
+}
+
+/// The job of a function at a level, with what the profile says now.
+fn look(
+    alloc: Global,
+    checked: &Checked,
+    profile: &Profile,
+    seat: &mut ProfileSeat,
+    f: FunId,
+    level: u8,
+) -> Result<Task, NoMemory>
+    requires own { Belongs profile.now seat.old }
+    requires program { program_of profile.now ≡ checked.now }
+    requires function { f.0 < length checked.now.functions }
+    ensures own { Belongs profile.now seat.new }
+    ensures same { IsSame seat.old seat.new }
+    ensures task { IfOk result (λ task. IsTaskOf f level task) }
+    ensures fits { IfOk result (λ task. FitsFunction checked.now f task.snapshot) }
+    ensures reads { IfOk result (λ task. GainsPart (LooksAt checked.now (job_in task)) (reads_of seat.old) (reads_of seat.new)) }
+    ensures lost { OnErr result (GainsPart (All Keeps) (reads_of seat.old) (reads_of seat.new)) }
+{
+    let snapshot = profile.snapshot(alloc, seat, f)?;
+    Ok(Task { f, level, snapshot })
+}
+
+/// What is made for a job: the words of its version, or how many they would be.
+fn make(alloc: Global, checked: &Checked, task: &Task) -> Result<Made, NoMemory>
+    requires function { task.now.f.0 < length checked.now.functions }
+    requires level { (1 ≤ task.now.level) × (task.now.level ≤ 3) }
+    requires fits { FitsFunction checked.now task.now.f task.now.snapshot }
+    ensures made { IfOk result (λ made. IsMade checked.now (job_in task.now) made) }
+{
+    let (version, skipped) = version_for(alloc, checked, task.f, task.level, &task.snapshot)?;
+    match spell(alloc, &version) {
+        Ok(words) => Ok(Made::Spelled { words, skipped }),
+        Err(EncodeError::TooLarge { len }) => Ok(Made::TooLarge { len }),
+        Err(EncodeError::NoMemory) => Err(NoMemory),
+    }
 }
 
 /// The version that the plan makes, with what is skipped.

@@ -2,10 +2,12 @@
 
 ghost use Rattle.std.specs.Prelude.{◌≡◌, ◌<◌, ◌≤◌, None, All, length, IfOk, OnErr};
 ghost use Rattle.cj_profile.specs.Reads.{Keeps};
+ghost use Rattle.cj_profile.specs.Jobs.{IsAnswerOf};
 ghost use Rattle.cj_profile.specs.Seats as counts;
 ghost use Rattle.cj_publish.specs.Seats.{view_of, key_of, program_of, Belongs};
 ghost use Rattle.cj_parts.specs.Calls.{GainsPart};
 ghost use Rattle.cj_notes.specs.Works.{JobDone, WorkedOne, Warmed, WorkFailed, WarmFailed};
+ghost use Rattle.cj_worker.specs.Answers.{Answered, AnswerFailed};
 ghost use Rattle.cj_worker.specs.Workers.{program_in, view_in, reads_in, IsReady, Stays};
 
 use crate::making::prepare;
@@ -81,7 +83,20 @@ impl<'a> Worker<'a> {
         ensures worked { IfOk result (λ note. WorkedOne (program_in self.old) note (view_in self.old) (view_in self.new) (reads_in self.old) (reads_in self.new)) }
         ensures failed { OnErr result (WorkFailed (program_in self.old) (view_in self.old) (view_in self.new) (reads_in self.old) (reads_in self.new)) }
     {
-        match self.profile.take_job(&mut self.profile_seat) {
+        let found = self.profile.take_job(&mut self.profile_seat);
+        self.answer(found)
+    }
+
+    // Does the job that was taken. Where none was, nothing is done.
+    fn answer(&mut self, found: JobAnswer) -> Result<WorkNote, NoMemory>
+        requires ready { IsReady self.old }
+        requires found { IsAnswerOf (program_in self.old) found }
+        ensures ready { IsReady self.new }
+        ensures stays { Stays self.old self.new }
+        ensures answered { IfOk result (λ note. Answered (program_in self.old) found note (view_in self.old) (view_in self.new) (reads_in self.old) (reads_in self.new)) }
+        ensures failed { OnErr result (AnswerFailed found (view_in self.old) (view_in self.new) (reads_in self.old) (reads_in self.new)) }
+    {
+        match found {
             JobAnswer::Job { f, level } => self.compile(f, level),
             JobAnswer::NoneAsked => Ok(WorkNote::NoneAsked),
             JobAnswer::Taken { f, found } => Ok(WorkNote::Taken { f, found }),

@@ -3,7 +3,7 @@ use Rattle.cj_ir.specs.declared.language.Program.{Program}
 use Rattle.cj_profile.specs.Snapshots.{FitsFunction}
 use Rattle.cj_profile.specs.Seats.{reads_of}
 use Rattle.cj_notes.proofs.Looking.{looks_at}
-use Rattle.cj_worker.proofs.making.prepare.Goals as goal
+use Rattle.cj_worker.proofs.making.look.Goals as goal
 
 pub returns-clause-reads : goal.returns-clause-reads
 returns-clause-reads c =
