@@ -1,11 +1,15 @@
 //! The tables of a run, as its calls find them.
 
-ghost use Rattle.std.specs.Prelude.{◌≡◌, ◌<◌, ◌≤◌, length, All, IfOk, OnOk};
+ghost use Rattle.std.specs.Prelude.{◌≡◌, ◌<◌, ◌≤◌, true, length, All, IfOk, OnOk};
 ghost use Rattle.cj_script.specs.Fitting.{FitsSetup};
+ghost use Rattle.cj_profile.specs.Seats as counts;
 ghost use Rattle.cj_profile.specs.Seats.{program_of, Belongs, IsSame, AddsPart};
+ghost use Rattle.cj_publish.specs.Seats.{view_of, key_of, IsSole};
+ghost use Rattle.cj_publish.specs.Views.{fresh};
 ghost use Rattle.cj_worker.specs.Workers.{program_in, IsReady, Stays};
 ghost use Rattle.cj_records.specs.Setups.{SetupPart};
 ghost use Rattle.cj_records.specs.Loops.{IsPrepared};
+ghost use Rattle.cj_records.specs.Versions.{IsWholeStore};
 ghost use Rattle.cj_alone.specs.Seats.{view_at, reads_at, IsFree, AreSame};
 ghost use Rattle.cj_alone.specs.Preparing.{HintsPart, WarmsUp, WarmedUp};
 
@@ -32,9 +36,14 @@ pub fn prepare(
     requires size { (length checked.now.functions < size) × (size ≤ 1048576) }
     ensures { IfOk result (λ made. IsPrepared checked.now size setups.now made.1 made.0) }
 {
-    let (code, code_seat) = CodeTable::make(alloc, checked, size)?;
-    let (profile, mut profile_seat) = Profile::make(alloc, checked)?;
-    set_hints(&profile, &mut profile_seat, setups);
+    let mut store = new_tables(alloc, checked, size)?;
+    set_hints(&store.profile, &mut store.profile_seat, setups);
+    let Store {
+        code,
+        code_seat,
+        profile,
+        profile_seat,
+    } = store;
     let seats = Seats {
         code: code_seat,
         profile: profile_seat,
@@ -47,6 +56,23 @@ pub fn prepare(
         profile_seat: seats.profile,
     };
     Ok((store, warm))
+}
+
+/// A program's tables, new, with `size` words in the code table, and the one seat that there is at each.
+fn new_tables(alloc: Global, checked: &Checked, size: u32) -> Result<Store, NoMemory>
+    requires size { (length checked.now.functions < size) × (size ≤ 1048576) }
+    ensures whole { IfOk result (λ store. IsWholeStore 0 size checked.now store) }
+    ensures sole { IfOk result (λ store. IsSole store.code_seat × counts.IsSole store.profile_seat) }
+    ensures unused { IfOk result (λ store. (view_of store.code_seat ≡ fresh (key_of store.code)) × counts.IsNew true store.profile_seat) }
+{
+    let (code, code_seat) = CodeTable::make(alloc, checked, size)?;
+    let (profile, profile_seat) = Profile::make(alloc, checked)?;
+    Ok(Store {
+        code,
+        code_seat,
+        profile,
+        profile_seat,
+    })
 }
 
 /// Sets the hints, in order.
