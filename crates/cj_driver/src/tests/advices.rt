@@ -1,23 +1,17 @@
 //! The line on the standard error, for each status and for each kind of refusal.
 
-use crate::tests::checks::{ended, finish_of, repeated};
+use crate::tests::checks::{Failing, ended, finish_of, repeated};
 use crate::{Finish, WordsError, advice, answer_without_words};
-use cj_io::{MemSink, MemSource};
 use std::alloc::Global;
 use std::process::Abort;
 use std::test::Fail;
 
 // One line for persons, with these words in it.
 fn is_line(text: &str, words: &str) -> bool {
-    text.starts_with("corejit: ")
-        && text.ends_with("\n")
-        && text
-            .as_bytes()
-            .iter()
-            .filter(|&&byte| byte == b'\n')
-            .count()
-            == 1
-        && text.contains(words)
+    let Some((line, behind)) = text.split_once('\n') else {
+        return false;
+    };
+    behind.is_empty() && line.starts_with("corejit: ") && line.contains(words)
 }
 
 // Checks the status of a call, and the line about it.
@@ -84,10 +78,7 @@ const INPUT: &str = "fun main() { 1: return 0 } calls call main limit 1";
 
 // How `alone` ends where the read and the write of these numbers fail.
 fn faulty(alloc: Global, read: u64, write: u64) -> Result<Finish, Fail> {
-    let bytes = String::from_str(alloc, INPUT)?.into_bytes();
-    let mut source = MemSource::new(bytes, 16, vec![in alloc; read]?);
-    let mut sink = MemSink::new(alloc, 7, vec![in alloc; write]?);
-    ended(alloc, &["alone"], &mut source, &mut sink)
+    ended(alloc, &["alone"], &[INPUT], Failing { read, write })
 }
 
 #[test]

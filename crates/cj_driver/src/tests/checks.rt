@@ -2,6 +2,7 @@
 
 use crate::{Finish, fault_line, top, top_alone};
 use cj_io::{MemSink, MemSource, OpenGate};
+use itoa::Buffer;
 use std::alloc::{AllocError, Global};
 use std::ops::Range;
 use std::process::Abort;
@@ -39,111 +40,200 @@ pub(crate) fn repeated(alloc: Global, piece: &str, count: u32) -> Result<String,
     Ok(text)
 }
 
-// The pieces before and behind a number, for each number of the range.
+// Each piece with the number behind it, and then the end, for each number of the range.
 pub(crate) fn numbered(
     alloc: Global,
     numbers: Range<u32>,
-    before: &str,
-    behind: &str,
+    pieces: &[&str],
+    end: &str,
 ) -> Result<String, AllocError> {
     let mut text = String::new(alloc);
+    let mut number = Buffer::new();
     for k in numbers {
-        text.push_str(&format!(in alloc; "{before}{k}{behind}")?)?;
+        let digits = number.format(k);
+        for piece in pieces {
+            text.push_str(piece)?;
+            text.push_str(digits)?;
+        }
+        text.push_str(end)?;
     }
     Ok(text)
 }
 
 // That many functions, each on a line of its own.
 pub(crate) fn functions(alloc: Global, count: u32) -> Result<String, AllocError> {
-    numbered(alloc, 0..count, "fun f", "() { 1: return 0 }\n")
+    numbered(alloc, 0..count, &["fun f"], "() { 1: return 0 }\n")
 }
 
-// How the call of these words ends.
+// Which read and which write fail, counted from 1; none where the number is 0, and then the pieces are large.
+#[derive(Clone, Copy)]
+pub(crate) struct Failing {
+    pub read: u64,
+    pub write: u64,
+}
+
+const NONE_FAILS: Failing = Failing { read: 0, write: 0 };
+
+fn source_of(alloc: Global, input: &[&str], fails: u64) -> Result<MemSource, AllocError> {
+    let piece = if fails == 0 { 1000 } else { 16 };
+    let fails = Vec::from_slice(alloc, &[fails])?;
+    Ok(MemSource::new(joined(alloc, input)?.into_bytes(), piece, fails))
+}
+
+fn sink_for(alloc: Global, fails: u64) -> Result<MemSink, AllocError> {
+    let piece = if fails == 0 { 1000 } else { 7 };
+    Ok(MemSink::new(alloc, piece, Vec::from_slice(alloc, &[fails])?))
+}
+
+// The words of a call, its source and its sink.
+#[derive(Drop)]
+struct Scene {
+    words: Vec<String>,
+    source: MemSource,
+    sink: MemSink,
+}
+
+impl Scene {
+    fn of(
+        alloc: Global,
+        words: &[&str],
+        input: &[&str],
+        failing: Failing,
+    ) -> Result<Scene, AllocError> {
+        Ok(Scene {
+            words: command_line(alloc, words)?,
+            source: source_of(alloc, input, failing.read)?,
+            sink: sink_for(alloc, failing.write)?,
+        })
+    }
+
+    fn ended(&mut self, alloc: Global) -> Finish {
+        top_alone(alloc, &self.words, &mut self.source, &mut self.sink)
+    }
+
+    // The same by callers and workers in threads.
+    fn ended_by_team<R: Threads + Wait + Sync>(&mut self, rt: &R, alloc: Global) -> Finish {
+        let Scene {
+            words,
+            source,
+            sink,
+        } = self;
+        top(rt, alloc, words, source, sink, &OpenGate)
+    }
+
+    // Whether the sink took the text and there is no line for the status, or took nothing and that line is the text.
+    fn tells(&self, alloc: Global, finish: &Finish, text: &str) -> Result<bool, Fail> {
+        let line = fault_line(alloc, finish)?;
+        Ok(is_either(self.sink.written(), &line, text.as_bytes()))
+    }
+}
+
+fn is_either(one: &[u8], other: &[u8], text: &[u8]) -> bool {
+    (one == text && other.is_empty()) || (one.is_empty() && other == text)
+}
+
+// How a call with an input ends. The input is given in pieces.
 pub(crate) fn ended(
     alloc: Global,
     words: &[&str],
-    source: &mut MemSource,
-    sink: &mut MemSink,
+    input: &[&str],
+    failing: Failing,
 ) -> Result<Finish, Fail> {
-    let words = command_line(alloc, words)?;
-    Ok(top_alone(alloc, &words, source, sink))
+    Ok(Scene::of(alloc, words, input, failing)?.ended(alloc))
 }
 
-// What the sink has taken, and the line of the status behind it.
-fn written(alloc: Global, sink: &MemSink, finish: &Finish) -> Result<Vec<u8>, Fail> {
-    let mut written = sink.written().to_vec(alloc)?;
-    written.extend_from_slice(&fault_line(alloc, finish)?)?;
-    Ok(written)
+// The same with a source and a sink that never fail.
+pub(crate) fn finish_of(alloc: Global, words: &[&str], input: &[&str]) -> Result<Finish, Fail> {
+    ended(alloc, words, input, NONE_FAILS)
 }
 
-// The status of a call, and what is written for it, the line of the status behind it.
-pub(crate) fn answer(
+// Whether a call ends with that status, and that text is written for it.
+fn ends_so(
     alloc: Global,
     words: &[&str],
-    mut source: MemSource,
-    mut sink: MemSink,
-) -> Result<(u8, Vec<u8>), Fail> {
-    let finish = ended(alloc, words, &mut source, &mut sink)?;
-    Ok((finish.status, written(alloc, &sink, &finish)?))
+    input: &[&str],
+    failing: Failing,
+    status: u8,
+    text: &str,
+) -> Result<bool, Fail> {
+    let mut scene = Scene::of(alloc, words, input, failing)?;
+    let finish = scene.ended(alloc);
+    Ok(finish.status == status && scene.tells(alloc, &finish, text)?)
 }
 
-// How a call with an input ends, with a source and a sink that never fail.
-pub(crate) fn finish_of(alloc: Global, words: &[&str], input: &[&str]) -> Result<Finish, Fail> {
-    let bytes = joined(alloc, input)?.into_bytes();
-    let mut source = MemSource::new(bytes, 1000, Vec::new(alloc));
-    let mut sink = MemSink::new(alloc, 1000, Vec::new(alloc));
-    ended(alloc, words, &mut source, &mut sink)
+fn ends_so_by_team<R: Threads + Wait + Sync>(
+    rt: &R,
+    alloc: Global,
+    words: &[&str],
+    input: &[&str],
+    status: u8,
+    text: &str,
+) -> Result<bool, Fail> {
+    let mut scene = Scene::of(alloc, words, input, NONE_FAILS)?;
+    let finish = scene.ended_by_team(rt, alloc);
+    Ok(finish.status == status && scene.tells(alloc, &finish, text)?)
 }
 
-// What is written for an input, by a source and a sink that never fail.
-fn answer_to(alloc: Global, words: &[&str], input: &[&str]) -> Result<(u8, Vec<u8>), Fail> {
-    let bytes = joined(alloc, input)?.into_bytes();
-    let source = MemSource::new(bytes, 1000, Vec::new(alloc));
-    answer(
-        alloc,
-        words,
-        source,
-        MemSink::new(alloc, 1000, Vec::new(alloc)),
-    )
-}
-
-// Checks how a call with an input ends, and what is written for it. The input and the text are given in pieces.
+// Checks how a call with an input ends, and what is written for it.
 pub(crate) fn check(
     rt: &impl Abort,
     alloc: Global,
     words: &[&str],
     input: &[&str],
     status: u8,
-    text: &[&str],
+    text: &str,
 ) -> Result<(), Fail> {
-    let answer = answer_to(alloc, words, input)?;
-    let text = joined(alloc, text)?;
-    assert_eq!(rt; answer.1.as_slice(), text.as_bytes(), "{input:?}");
-    assert_eq!(rt; answer.0, status, "{input:?}");
+    assert!(rt;
+        ends_so(alloc, words, input, NONE_FAILS, status, text)?,
+        "{input:?}"
+    );
     Ok(())
 }
 
-// The same of a call with callers and workers in threads.
+// The same of `alone`, where a read or a write fails.
+pub(crate) fn check_failing(
+    rt: &impl Abort,
+    alloc: Global,
+    input: &[&str],
+    failing: Failing,
+    status: u8,
+    text: &str,
+) -> Result<(), Fail> {
+    let Failing { read, write } = failing;
+    assert!(rt;
+        ends_so(alloc, &["alone"], input, failing, status, text)?,
+        "{read} {write}"
+    );
+    Ok(())
+}
+
+// The same with callers and workers in threads.
 pub(crate) fn check_team<R: Abort + Threads + Wait + Sync>(
     rt: &R,
     alloc: Global,
     words: &[&str],
     input: &[&str],
     status: u8,
-    text: &[&str],
+    text: &str,
 ) -> Result<(), Fail> {
-    let bytes = joined(alloc, input)?.into_bytes();
-    let mut source = MemSource::new(bytes, 1000, Vec::new(alloc));
-    let mut sink = MemSink::new(alloc, 1000, Vec::new(alloc));
-    let words = command_line(alloc, words)?;
-    let finish = top(rt, alloc, &words, &mut source, &mut sink, &OpenGate);
-    assert_eq!(rt; finish.status, status, "{input:?}");
-    let written = written(alloc, &sink, &finish)?;
-    assert_eq!(rt;
-        written.as_slice(),
-        joined(alloc, text)?.as_bytes(),
-        "{input:?}"
+    assert!(rt;
+        ends_so_by_team(rt, alloc, words, input, status, text)?,
+        "{words:?}"
     );
+    Ok(())
+}
+
+// Checks what a call with these words writes for each program, with what stands between it and each script, and the script.
+pub(crate) fn all_write(
+    rt: &impl Abort,
+    alloc: Global,
+    words: &[&str],
+    between: &str,
+    cases: &[(&str, &str, &str)],
+) -> Result<(), Fail> {
+    for &(program, script, text) in cases {
+        check(rt, alloc, words, &[program, between, script], 0, text)?;
+    }
     Ok(())
 }
 
@@ -154,9 +244,9 @@ pub(crate) fn refused(
     input: &[&str],
     offence: &str,
 ) -> Result<(), Fail> {
-    let line = ["line ", offence, "\n"];
-    check(rt, alloc, &["alone"], input, 3, &line)?;
-    check(rt, alloc, &["format"], input, 3, &line)
+    let line = joined(alloc, &["line ", offence, "\n"])?;
+    check(rt, alloc, &["alone"], input, 3, line.as_str())?;
+    check(rt, alloc, &["format"], input, 3, line.as_str())
 }
 
 // Checks that each input with this beginning is refused.

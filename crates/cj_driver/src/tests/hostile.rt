@@ -1,7 +1,6 @@
 //! Devices that fail at any call, texts that are cut anywhere, and hints that are false in every way.
 
-use crate::tests::checks::{answer, check, joined};
-use cj_io::{MemSink, MemSource};
+use crate::tests::checks::{Failing, check, check_failing, ended};
 use std::alloc::Global;
 use std::process::Abort;
 use std::test::Fail;
@@ -9,77 +8,55 @@ use std::test::Fail;
 const INCREMENT: &str =
     "fun main(n; r) {\n1: op r = n + 1 -> 2\n2: print r -> 3\n3: return r\n}\ncalls\ncall main 4 memory 64 limit 100\n";
 
-const WRITTEN: &[u8] = b"call 1\n5\nreturn 5\n";
+const WRITTEN: &str = "call 1\n5\nreturn 5\n";
 
-// The first bytes of a text.
-fn beginning(alloc: Global, text: &str, count: usize) -> Result<Vec<u8>, Fail> {
-    let mut bytes = Vec::new(alloc);
-    for &byte in text.as_bytes().iter().take(count) {
-        bytes.push(byte)?;
+// What is written where the write of a number fails.
+const PARTS: &[(u64, u8, &str)] = &[
+    (1, 5, ""),
+    (2, 5, "call 1\n"),
+    (3, 5, "call 1\n5\nretur"),
+    (4, 0, WRITTEN),
+];
+
+#[test]
+fn whichever_read_or_write_fails(rt: HostRuntime) -> Result<(), Fail> {
+    let alloc = rt.alloc();
+    // seven reads give the text, and the eighth its end
+    for read in 1..9 {
+        let failing = Failing { read, write: 99 };
+        check_failing(&rt, alloc, &[INCREMENT], failing, 4, "read fault\n")?;
     }
-    Ok(bytes)
-}
-
-// A source of the bytes that gives 16 a read, and a sink that takes 7 bytes a write; the read and the write of these
-// numbers fail.
-fn devices(
-    alloc: Global,
-    bytes: Vec<u8>,
-    read: u64,
-    write: u64,
-) -> Result<(MemSource, MemSink), Fail> {
-    let source = MemSource::new(bytes, 16, vec![in alloc; read]?);
-    let sink = MemSink::new(alloc, 7, vec![in alloc; write]?);
-    Ok((source, sink))
-}
-
-// Checks how `alone` ends, and what is written, with these devices.
-fn ends(
-    rt: &impl Abort,
-    alloc: Global,
-    read: u64,
-    write: u64,
-    status: u8,
-    text: &[u8],
-) -> Result<(), Fail> {
-    let bytes = joined(alloc, &[INCREMENT])?.into_bytes();
-    let (source, sink) = devices(alloc, bytes, read, write)?;
-    let answer = answer(alloc, &["alone"], source, sink)?;
-    assert_eq!(rt; answer.0, status, "{read} {write}");
-    assert_eq!(rt; answer.1.as_slice(), text, "{read} {write}");
+    let failing = Failing { read: 9, write: 99 };
+    check_failing(&rt, alloc, &[INCREMENT], failing, 0, WRITTEN)?;
+    for &(write, status, text) in PARTS {
+        let failing = Failing { read: 99, write };
+        check_failing(&rt, alloc, &[INCREMENT], failing, status, text)?;
+    }
     Ok(())
 }
 
-#[test]
-fn whichever_read_fails_nothing_is_written(rt: HostRuntime) -> Result<(), Fail> {
-    // seven reads give the text, and the eighth its end
-    for read in 1..9 {
-        ends(&rt, rt.alloc(), read, 99, 4, b"read fault\n")?;
+// The status of `alone` for the first bytes of the text.
+fn cut_status(alloc: Global, cut: usize) -> Result<u8, Fail> {
+    match INCREMENT.get(..cut) {
+        Some(beginning) => {
+            let failing = Failing {
+                read: 99,
+                write: 99,
+            };
+            Ok(ended(alloc, &["alone"], &[beginning], failing)?.status)
+        }
+        None => Ok(0),
     }
-    ends(&rt, rt.alloc(), 9, 99, 0, WRITTEN)
-}
-
-#[test]
-fn whichever_write_fails_a_beginning_is_written(rt: HostRuntime) -> Result<(), Fail> {
-    for write in 1..4_u64 {
-        let taken = 7 * (write as usize - 1);
-        ends(&rt, rt.alloc(), 99, write, 5, &WRITTEN[..taken])?;
-    }
-    ends(&rt, rt.alloc(), 99, 4, 0, WRITTEN)
 }
 
 #[test]
 fn a_text_that_is_cut_is_refused(rt: HostRuntime) -> Result<(), Fail> {
-    let alloc = rt.alloc();
     let script = INCREMENT.len() - 32;
     for cut in 0..INCREMENT.len() - 1 {
-        let bytes = beginning(alloc, INCREMENT, cut)?;
-        let (source, sink) = devices(alloc, bytes, 99, 99)?;
-        let answer = answer(alloc, &["alone"], source, sink)?;
         // behind `calls` the script is empty, and behind `limit 1` and `limit 10` it is whole
         let valid = [script - 1, script, INCREMENT.len() - 3, INCREMENT.len() - 2].contains(&cut);
-        assert_eq!(rt; answer.0 == 0, valid, "{cut}");
-        assert_eq!(rt; answer.0 == 3, !valid, "{cut}");
+        let status = if valid { 0 } else { 3 };
+        assert_eq!(rt; cut_status(rt.alloc(), cut)?, status, "{cut}");
     }
     Ok(())
 }
@@ -107,12 +84,12 @@ fn hints_are_harmless(
     calls: &str,
     text: &str,
 ) -> Result<(), Fail> {
-    check(rt, alloc, &["alone"], &[program, calls], 0, &[text])?;
+    check(rt, alloc, &["alone"], &[program, calls], 0, text)?;
     for value in VALUES {
         for edge in edges {
             for level in &["warm main 1 ", "warm main 2 "] {
                 let input = [program, "guess main n ", *value, " ", *edge, *level, calls];
-                check(rt, alloc, &["alone"], &input, 0, &[text])?;
+                check(rt, alloc, &["alone"], &input, 0, text)?;
             }
         }
     }

@@ -1,7 +1,7 @@
 //! Scripts whose calls ask for levels, with the notes and the looks behind what is written.
 
 use crate::Finish;
-use crate::tests::checks::{check, finish_of, joined, repeated};
+use crate::tests::checks::{check, finish_of, repeated};
 use cj_calls::Report;
 use cj_notes::WorkNote;
 use std::test::Fail;
@@ -51,7 +51,7 @@ fn the_third_failure_asks_for_the_third_level(rt: HostRuntime) -> Result<(), Fai
         call 3\n12\nreturn 12\nturns 4 base 3 fails 1\n\
         call 4\n12\nreturn 12\nturns 3 base 3 fails 0\n\
         call 5\n12\nreturn 12\nturns 3 base 3 fails 0\n";
-    check(&rt, alloc, &["alone", "stats"], &input, 0, &[text])?;
+    check(&rt, alloc, &["alone", "stats"], &input, 0, text)?;
     let finish = finish_of(alloc, &["alone"], &input)?;
     assert!(rt; are_levels(finish.made.work.items(), &[1, 0, 0, 3, 0, 0]));
     assert!(rt; all_looked_up(&finish, 1, 0));
@@ -69,17 +69,17 @@ fn ten_thousand_activations_wait(rt: HostRuntime) -> Result<(), Fail> {
     let input = [RECURSION, &calls];
     let text = "call 1\nreturn 10000\nturns 40002 base 40002 fails 0\n\
         call 2\nreturn 10000\nturns 40002 base 40002 fails 0\n";
-    check(&rt, alloc, &["alone", "stats"], &input, 0, &[text])?;
+    check(&rt, alloc, &["alone", "stats"], &input, 0, text)?;
     let finish = finish_of(alloc, &["alone"], &input)?;
     assert!(rt; are_levels(finish.made.work.items(), &[2, 0]));
     assert!(rt; all_looked_up(&finish, 10_001, 1));
-    let one_turn_less = joined(alloc, &[RECURSION, "call main 10000 limit 40001"])?;
+    let one_turn_less = [RECURSION, "call main 10000 limit 40001"];
     check(
         &rt,
         alloc,
         &["alone"],
-        &[&one_turn_less],
+        &one_turn_less,
         0,
-        &["call 1\nturn limit\n"],
+        "call 1\nturn limit\n",
     )
 }

@@ -1,8 +1,6 @@
 //! Worked replays, from bytes to bytes.
 
-use crate::tests::checks::check;
-use std::alloc::Global;
-use std::process::Abort;
+use crate::tests::checks::{all_write, check};
 use std::test::Fail;
 
 const DOUBLE: &str = "fun main(n; r) { 1: op r = n * 2 -> 2 2: print r -> 3 3: return r }";
@@ -28,103 +26,91 @@ const TWICE: &str =
 
 const ZERO_DIVISOR: &str = "fun main(; r) { 1: op r = 7 / 0 -> 2 2: return r }";
 
-// Checks what a replay writes, with its counts.
-fn plays(
-    rt: &impl Abort,
-    alloc: Global,
-    program: &str,
-    events: &str,
-    text: &str,
-) -> Result<(), Fail> {
-    let input = [program, " events ", events];
-    check(rt, alloc, &["replay", "stats"], &input, 0, &[text])
-}
+// Programs, events, and what is written with counts.
+const PLAYS: &[(&str, &str, &str)] = &[
+    // a guard holds and fails
+    (
+        DOUBLE,
+        "compile main { anchors 0 assume 3 when 0 = 5 }
+        begin main 5 limit 100 begin main 6 limit 100",
+        "call 1\n10\nreturn 10\nturns 4 base 3 fails 0\n\
+        call 2\n12\nreturn 12\nturns 4 base 3 fails 1\n",
+    ),
+    (
+        DOUBLE,
+        "compile main { anchors 0 1 assume 3 when 0 = 5, 1 = 0 }
+        begin main 5 limit 100 begin main 6 limit 100",
+        "call 1\n10\nreturn 10\nturns 4 base 3 fails 0\n\
+        call 2\n12\nreturn 12\nturns 4 base 3 fails 1\n",
+    ),
+    // a delayed Assume takes its turn back
+    (
+        COLD_BRANCH,
+        "compile main { anchors 0 delay 4 0 2 when never }
+        begin main 0 limit 100 begin main 1 limit 100",
+        "call 1\n2\nreturn 0\nturns 5 base 3 fails 1\n\
+        call 2\n1\nreturn 1\nturns 3 base 3 fails 0\n",
+    ),
+    (
+        COLD_BRANCH,
+        "compile main { anchors 0 delay 4 0 1 3 when never } begin main 0 limit 100",
+        "call 1\n2\nreturn 0\nturns 3 base 3 fails 0\n",
+    ),
+    // two inlined frames are built anew
+    (
+        TWO_CALLS,
+        "compile main { inline 0 inline 2 anchors 6 assume 7 when never }
+        begin main 5 limit 100",
+        "call 1\n5\nreturn 6\nturns 8 base 7 fails 1\n",
+    ),
+    // a recursive sum is inlined once
+    (
+        SUM,
+        "compile sum { inline 2 const } begin sum 3 limit 100",
+        "call 1\nreturn 6\nturns 17 base 17 fails 0\n",
+    ),
+    // an inlined accumulator begins at 0
+    (
+        ACCUMULATOR,
+        "compile main { inline 1 const } begin main 2 limit 1000",
+        "call 1\n2\n1\nreturn 1\nturns 14 base 14 fails 0\n",
+    ),
+    // a run enters what was compiled meanwhile
+    (
+        TWICE,
+        "begin main 3 limit 100 step 1 2 compile twice { const }",
+        "call 1\nreturn 12\nturns 7 base 7 fails 0\n",
+    ),
+    // a zero divisor is not folded
+    (
+        ZERO_DIVISOR,
+        "compile main { const } begin main limit 10",
+        "call 1\nfault divide\nturns 1 base 1 fails 0\n",
+    ),
+    // runs go on in turn
+    (
+        TWICE,
+        "begin main 3 limit 100 begin main 4 limit 100
+        step 2 1 step 1 2 compile twice { const } step 2 2 step 1 100",
+        "call 1\nreturn 12\nturns 7 base 7 fails 0\n\
+        call 2\nreturn 16\nturns 7 base 7 fails 0\n",
+    ),
+];
 
 #[test]
-fn a_guard_holds_and_fails(rt: HostRuntime) -> Result<(), Fail> {
-    let text = "call 1\n10\nreturn 10\nturns 4 base 3 fails 0\n\
-        call 2\n12\nreturn 12\nturns 4 base 3 fails 1\n";
-    let one = "compile main { anchors 0 assume 3 when 0 = 5 }
-        begin main 5 limit 100 begin main 6 limit 100";
-    plays(&rt, rt.alloc(), DOUBLE, one, text)?;
-    let two = "compile main { anchors 0 1 assume 3 when 0 = 5, 1 = 0 }
-        begin main 5 limit 100 begin main 6 limit 100";
-    plays(&rt, rt.alloc(), DOUBLE, two, text)
-}
-
-#[test]
-fn a_delayed_assume_takes_its_turn_back(rt: HostRuntime) -> Result<(), Fail> {
-    let events = "compile main { anchors 0 delay 4 0 2 when never }
-        begin main 0 limit 100 begin main 1 limit 100";
-    let text = "call 1\n2\nreturn 0\nturns 5 base 3 fails 1\n\
-        call 2\n1\nreturn 1\nturns 3 base 3 fails 0\n";
-    plays(&rt, rt.alloc(), COLD_BRANCH, events, text)?;
-    let events = "compile main { anchors 0 delay 4 0 1 3 when never } begin main 0 limit 100";
-    let text = "call 1\n2\nreturn 0\nturns 3 base 3 fails 0\n";
-    plays(&rt, rt.alloc(), COLD_BRANCH, events, text)
-}
-
-#[test]
-fn two_inlined_frames_are_built_anew(rt: HostRuntime) -> Result<(), Fail> {
-    let events = "compile main { inline 0 inline 2 anchors 6 assume 7 when never }
-        begin main 5 limit 100";
-    let text = "call 1\n5\nreturn 6\nturns 8 base 7 fails 1\n";
-    plays(&rt, rt.alloc(), TWO_CALLS, events, text)
-}
-
-#[test]
-fn a_recursive_sum_is_inlined_once(rt: HostRuntime) -> Result<(), Fail> {
-    let events = "compile sum { inline 2 const } begin sum 3 limit 100";
-    let text = "call 1\nreturn 6\nturns 17 base 17 fails 0\n";
-    plays(&rt, rt.alloc(), SUM, events, text)
-}
-
-#[test]
-fn an_inlined_accumulator_begins_at_0(rt: HostRuntime) -> Result<(), Fail> {
-    let events = "compile main { inline 1 const } begin main 2 limit 1000";
-    let text = "call 1\n2\n1\nreturn 1\nturns 14 base 14 fails 0\n";
-    plays(&rt, rt.alloc(), ACCUMULATOR, events, text)
-}
-
-#[test]
-fn a_run_enters_what_was_compiled_meanwhile(rt: HostRuntime) -> Result<(), Fail> {
-    let events = "begin main 3 limit 100 step 1 2 compile twice { const }";
-    let text = "call 1\nreturn 12\nturns 7 base 7 fails 0\n";
-    plays(&rt, rt.alloc(), TWICE, events, text)
-}
-
-#[test]
-fn a_zero_divisor_is_not_folded(rt: HostRuntime) -> Result<(), Fail> {
-    let events = "compile main { const } begin main limit 10";
-    let text = "call 1\nfault divide\nturns 1 base 1 fails 0\n";
-    plays(&rt, rt.alloc(), ZERO_DIVISOR, events, text)
-}
-
-#[test]
-fn runs_go_on_in_turn(rt: HostRuntime) -> Result<(), Fail> {
-    let events = "begin main 3 limit 100 begin main 4 limit 100
-        step 2 1 step 1 2 compile twice { const } step 2 2 step 1 100";
-    let text = "call 1\nreturn 12\nturns 7 base 7 fails 0\n\
-        call 2\nreturn 16\nturns 7 base 7 fails 0\n";
-    plays(&rt, rt.alloc(), TWICE, events, text)
-}
-
-#[test]
-fn counts_are_written_where_they_are_asked_for(rt: HostRuntime) -> Result<(), Fail> {
+fn replays_are_played(rt: HostRuntime) -> Result<(), Fail> {
+    let alloc = rt.alloc();
+    all_write(&rt, alloc, &["replay", "stats"], " events ", PLAYS)?;
+    // counts are written where they are asked for
     let input = [DOUBLE, " events begin main 5 memory 9 limit 100"];
-    let text = ["call 1\n10\nreturn 10\n"];
-    check(&rt, rt.alloc(), &["replay"], &input, 0, &text)
-}
-
-#[test]
-fn a_refused_replay_tells_its_line_and_kind(rt: HostRuntime) -> Result<(), Fail> {
-    let input = ["fun main() { 1: return 0 } events\nstep 1 1"];
     check(
         &rt,
-        rt.alloc(),
+        alloc,
         &["replay"],
         &input,
-        3,
-        &["line 2: Range\n"],
-    )
+        0,
+        "call 1\n10\nreturn 10\n",
+    )?;
+    let input = ["fun main() { 1: return 0 } events\nstep 1 1"];
+    check(&rt, alloc, &["replay"], &input, 3, "line 2: Range\n")
 }

@@ -1,11 +1,10 @@
 //! Worked calls of the program, from bytes to bytes.
 
 use crate::tests::checks::{
-    USAGE, all_refused, answer, check, functions, joined, numbered, refused, repeated,
+    Failing, USAGE, all_refused, all_write, check, check_failing, functions, numbered, refused,
+    repeated,
 };
-use cj_io::{MemSink, MemSource};
 use std::alloc::{AllocError, Global};
-use std::process::Abort;
 use std::test::Fail;
 
 const INCREMENT: &str = "fun main(n; r) {\n1: op r = n + 1 -> 2\n2: print r -> 3\n3: return r\n}\n";
@@ -150,97 +149,59 @@ const OFFENCES: &[(&str, &str)] = &[
     ),
 ];
 
-// Checks what is written for each program with its calls.
-fn all_run(rt: &impl Abort, alloc: Global, cases: &[(&str, &str, &str)]) -> Result<(), Fail> {
-    for &(program, calls, text) in cases {
-        check(
-            rt,
-            alloc,
-            &["alone"],
-            &[program, " calls ", calls],
-            0,
-            &[text],
-        )?;
-    }
-    Ok(())
-}
-
 #[test]
 fn alone_writes_prints_and_ends(rt: HostRuntime) -> Result<(), Fail> {
-    all_run(&rt, rt.alloc(), RUNS)
+    all_write(&rt, rt.alloc(), &["alone"], " calls ", RUNS)
 }
 
 // What is written for the calls of the bank. In the first two there is too little to pay from.
 fn paid(alloc: Global) -> Result<String, AllocError> {
     let mut text = String::from_str(alloc, "call 1\n0\nreturn 150\ncall 2\n0\nreturn 250\n")?;
-    for k in 3..41_u32 {
-        let value = k.wrapping_mul(100).wrapping_add(30);
-        text.push_str(&format!(in alloc; "call {k}\n1\nreturn {value}\n")?)?;
-    }
+    let later = numbered(alloc, 3..41, &["call ", "\n1\nreturn "], "30\n")?;
+    text.push_str(later.as_str())?;
     Ok(text)
 }
 
 #[test]
 fn the_bank_script_pays_and_is_paid(rt: HostRuntime) -> Result<(), Fail> {
     let alloc = rt.alloc();
-    let calls = numbered(alloc, 1..41, "call main ", " limit 2000\n")?;
-    check(
-        &rt,
-        alloc,
-        &["alone"],
-        &[BANK, "calls\n", &calls],
-        0,
-        &[&paid(alloc)?],
-    )
+    let calls = numbered(alloc, 1..41, &["call main "], " limit 2000\n")?;
+    let input = [BANK, "calls\n", calls.as_str()];
+    check(&rt, alloc, &["alone"], &input, 0, paid(alloc)?.as_str())
 }
+
+const CANONICAL: &str =
+    "fun main(n; r) {\n1: op r = n + 1 -> 2\n2: print r -> 3\n3: return r\n}\ncalls\ncall main 4 memory 64 limit 100\n";
 
 #[test]
 fn format_writes_the_canonical_text(rt: HostRuntime) -> Result<(), Fail> {
-    let text = &[INCREMENT, "calls\ncall main 4 memory 64 limit 100\n"];
     let input =
         "fun main ( n ;r){# a comment\n1:op r=n+1->2 2:print r->3\n3 : return r }calls call main 04 limit 100";
-    check(&rt, rt.alloc(), &["format"], &[input], 0, text)?;
-    check(&rt, rt.alloc(), &["format"], text, 0, text)
+    check(&rt, rt.alloc(), &["format"], &[input], 0, CANONICAL)?;
+    check(&rt, rt.alloc(), &["format"], &[CANONICAL], 0, CANONICAL)
 }
 
 #[test]
 fn refusals_tell_line_and_kind(rt: HostRuntime) -> Result<(), Fail> {
     let alloc = rt.alloc();
     all_refused(&rt, alloc, "", OFFENCES)?;
-    refused(
-        &rt,
-        alloc,
-        &[&functions(alloc, 65)?, "calls"],
-        "65: TooMany",
-    )
-}
-
-// Checks how a call of the increment ends, and what is written, where the read and the write of these numbers fail.
-fn stops(
-    rt: &impl Abort,
-    alloc: Global,
-    read: u64,
-    write: u64,
-    status: u8,
-    text: &[u8],
-) -> Result<(), Fail> {
-    let input = joined(alloc, &[INCREMENT, "calls call main 4 limit 100"])?;
-    let source = MemSource::new(input.into_bytes(), 16, vec![in alloc; read]?);
-    let sink = MemSink::new(alloc, 7, vec![in alloc; write]?);
-    let answer = answer(alloc, &["alone"], source, sink)?;
-    assert_eq!(rt; answer.0, status);
-    assert_eq!(rt; answer.1.as_slice(), text);
-    Ok(())
+    let many = functions(alloc, 65)?;
+    refused(&rt, alloc, &[many.as_str(), "calls"], "65: TooMany")
 }
 
 #[test]
 fn faults_stop_a_call(rt: HostRuntime) -> Result<(), Fail> {
     let alloc = rt.alloc();
-    check(&rt, alloc, &["loud"], &[], 2, &[USAGE])?;
-    check(&rt, alloc, &["replay", "loud"], &[], 2, &[USAGE])?;
+    check(&rt, alloc, &["loud"], &[], 2, USAGE)?;
+    check(&rt, alloc, &["replay", "loud"], &[], 2, USAGE)?;
+    let input = [INCREMENT, "calls call main 4 limit 100"];
+    let second_read = Failing { read: 2, write: 9 };
+    check_failing(&rt, alloc, &input, second_read, 4, "read fault\n")?;
+    let second_write = Failing {
+        read: 999,
+        write: 2,
+    };
+    check_failing(&rt, alloc, &input, second_write, 5, "call 1\n")?;
     let blanks = repeated(alloc, " ", 4_194_305)?;
-    check(&rt, alloc, &["alone"], &[&blanks], 7, &["too long\n"])?;
-    // the second read fails, and then the second write
-    stops(&rt, alloc, 2, 9, 4, b"read fault\n")?;
-    stops(&rt, alloc, 999, 2, 5, b"call 1\n")
+    check(&rt, alloc, &["alone"], &[blanks.as_str()], 7, "too long\n")
 }
