@@ -121,14 +121,14 @@ deal_worker a b c callers n slots after h d = subst (λ (rs : List Role). HasDea
 
 -- few seats were split off so far
 pub few_callers : (a b : Store) (callers n : ℕ) (slots : List Slot) → HasDealt a (callers_to callers n) slots b →
-    (a.code_seat.splits ≡ 0) × (a.profile_seat.splits ≡ 0) → n ≤ 4 → (b.code_seat.splits < 65536) × (b.profile_seat.splits < 65536)
+    (a.code_seat.splits ≡ 0) × (a.profile_seat.splits ≡ 0) → n ≤ 4 → (b.code_seat.splits < 16) × (b.profile_seat.splits < 16)
 few_callers a b callers n slots h none few =
     let x = h.split.code_splits in let y = h.split.profile_splits in let p = none.0 in let q = none.1 in
     (omega (arith, x, p, few, length_callers callers n), omega (arith, y, q, few, length_callers callers n))
 
 pub few_workers : (a b : Store) (callers n : ℕ) (slots : List Slot) → HasDealt a (callers_to callers callers ++ replicate n (Worker callers)) slots b →
     (a.code_seat.splits ≡ 0) × (a.profile_seat.splits ≡ 0) → callers ≤ 4 → n ≤ 4
-    → (b.code_seat.splits < 65536) × (b.profile_seat.splits < 65536)
+    → (b.code_seat.splits < 16) × (b.profile_seat.splits < 16)
 few_workers a b callers n slots h none few some =
     let x = h.split.code_splits in let y = h.split.profile_splits in let p = none.0 in let q = none.1 in
     (omega (arith, x, p, few, some, length_roles callers callers n), omega (arith, y, q, few, some, length_roles callers callers n))

@@ -3,10 +3,11 @@
 ghost use Rattle.std.specs.Prelude.{◌≡◌, ◌+◌, ◌<◌, ◌≤◌, length, map, All, IfOk, OnOk};
 ghost use Rattle.cj_script.specs.Fitting.{FitsCall};
 ghost use Rattle.cj_base.specs.Run.{begun};
+ghost use Rattle.cj_profile.specs.Seats as counts;
 ghost use Rattle.cj_publish.specs.Seats.{view_of};
 ghost use Rattle.cj_session.specs.Sessions.{IsReady, Stays};
 ghost use Rattle.cj_records.specs.Chains.{share};
-ghost use Rattle.cj_roles.specs.Calls.{RunsCall, RunsCalls};
+ghost use Rattle.cj_roles.specs.Calls.{RunsCall, RunsCalls, IsCounted, HasFinished};
 ghost use Rattle.cj_roles.specs.Roles.{IsRun, AreNew, RoleEnds};
 ghost use Rattle.cj_roles.specs.declared.role.Role.TheVariants as role;
 
@@ -15,14 +16,22 @@ use cj_calls::Report;
 use cj_io::Gate;
 use cj_ir::{NoMemory, ScriptCall};
 use cj_notes::Works;
-use cj_profile::ProfileSeat;
+use cj_profile::{Profile, ProfileSeat};
 use cj_publish::CodeSeat;
 use cj_script::limits::MAX_CALLS;
 use cj_session::{Session, Versions};
 use std::alloc::Global;
 use std::collections::VecDeque;
 
-/// Runs the calls that fall to a caller, in order. It is counted as finished also where memory ran out.
+/// What a caller has come to when it is counted as finished: its reports, or want of memory, and the seats.
+#[derive(Drop)]
+pub(crate) struct CallerDone {
+    pub(crate) answer: Result<VecDeque<Report>, NoMemory>,
+    pub(crate) code_seat: CodeSeat,
+    pub(crate) profile_seat: ProfileSeat,
+}
+
+/// Runs the calls that fall to a caller, in order.
 pub(crate) fn run_caller<G: Gate>(
     alloc: Global,
     shared: &Shared<'_>,
@@ -38,7 +47,7 @@ pub(crate) fn run_caller<G: Gate>(
     ensures { IfOk result (RoleEnds shared.now.calls.now shared.now.code.now shared.now.profile.now (view_of code_seat) (role.Caller first callers)) }
 {
     let versions = Versions::new(alloc);
-    let mut session = Session::new(
+    let session = Session::new(
         alloc,
         shared.checked,
         shared.code,
@@ -47,17 +56,54 @@ pub(crate) fn run_caller<G: Gate>(
         profile_seat,
         versions,
     );
-    let answer = run_calls(alloc, &mut session, gate, shared.calls, first, callers);
-    let (code_seat, mut profile_seat) = session.into_seats();
-    shared.profile.finish_caller(&mut profile_seat);
-    let reports = answer?;
+    let done = run_and_finish(alloc, shared, gate, first, callers, session);
+    let reports = done.answer?;
     let work = Works::new(alloc);
     Ok(RoleDone {
         reports,
         work,
+        code_seat: done.code_seat,
+        profile_seat: done.profile_seat,
+    })
+}
+
+/// Runs the calls of a caller. Then it is counted as finished, also where memory ran out.
+fn run_and_finish<G: Gate>(
+    alloc: Global,
+    shared: &Shared<'_>,
+    gate: &G,
+    first: u32,
+    callers: u32,
+    mut session: Session<'_>,
+) -> CallerDone
+    requires run { IsRun shared.now }
+    requires callers { (first < callers) × (callers ≤ 4) }
+    requires ready { IsReady session }
+    requires tables { (session.checked.now ≡ shared.now.checked.now) × (session.profile.now ≡ shared.now.profile.now) }
+    ensures own { counts.Belongs shared.now.profile.now result.profile_seat }
+    ensures finished { HasFinished (map begun (share callers first shared.now.calls.now)) session.entry result }
+{
+    let answer = run_calls(alloc, &mut session, gate, shared.calls, first, callers);
+    let (code_seat, profile_seat) = end_session(session, shared.profile);
+    CallerDone {
+        answer,
         code_seat,
         profile_seat,
-    })
+    }
+}
+
+/// Ends the session of a caller, and counts the caller as finished.
+fn end_session(session: Session<'_>, profile: &Profile) -> (CodeSeat, ProfileSeat)
+    requires ready { IsReady session }
+    requires profile { session.profile.now ≡ profile.now }
+    ensures code { result.0 ≡ session.entry.code_seat }
+    ensures own { counts.Belongs profile.now result.1 }
+    ensures same { counts.IsSame session.entry.profile_seat result.1 }
+    ensures counted { IsCounted session.entry.profile_seat result.1 }
+{
+    let (code_seat, mut profile_seat) = session.into_seats();
+    profile.finish_caller(&mut profile_seat);
+    (code_seat, profile_seat)
 }
 
 /// Runs the call at `first`, and each that lies another `callers` further on.

@@ -1,11 +1,15 @@
 //! The roles of a run, each with its seats.
 
 ghost use Rattle.std.specs.Prelude.{◌≡◌, ◌<◌, ◌≤◌, IfOk, OnOk};
-ghost use Rattle.cj_roles.specs.Roles.{RoleFits, roles_in};
-ghost use Rattle.cj_roles.specs.Dealt.{CanBeSplit, Deals, HasDealt};
+ghost use Rattle.cj_publish.specs.Seats.{view_of};
+ghost use Rattle.cj_publish.specs.Views.{given};
+ghost use Rattle.cj_roles.specs.Roles.{RoleFits, AreNew, roles_in};
+ghost use Rattle.cj_roles.specs.Dealt.{CanBeSplit, HasSplit, Deals, HasDealt};
 
 use crate::role::{Job, Role, Slot};
 use cj_ir::NoMemory;
+use cj_profile::ProfileSeat;
+use cj_publish::CodeSeat;
 use cj_records::Store;
 use std::alloc::Global;
 
@@ -35,15 +39,27 @@ pub(crate) fn deal(
 fn add_role(store: &mut Store, role: Role, slots: &mut Vec<Slot>) -> Result<(), NoMemory>
     requires store { CanBeSplit store.old }
     requires role { RoleFits role }
-    requires splits { (store.old.code_seat.splits < 65536) × (store.old.profile_seat.splits < 65536) }
+    requires splits { (store.old.code_seat.splits < 16) × (store.old.profile_seat.splits < 16) }
     ensures { OnOk result (Deals store.old role slots.old.items slots.new.items store.new) }
 {
-    let code_seat = store.code.split(&mut store.code_seat);
-    let profile_seat = store.profile.split(&mut store.profile_seat);
+    let (code_seat, profile_seat) = split_seats(store);
     slots.push(Slot::Given(Job {
         role,
         code_seat,
         profile_seat,
     }))?;
     Ok(())
+}
+
+/// A seat more at each table of the store, split off its own: new, and having seen what that one had.
+fn split_seats(store: &mut Store) -> (CodeSeat, ProfileSeat)
+    requires store { CanBeSplit store.old }
+    requires splits { (store.old.code_seat.splits < 16) × (store.old.profile_seat.splits < 16) }
+    ensures split { HasSplit 1 store.old store.new }
+    ensures new { AreNew store.old.code store.old.profile result.0 result.1 }
+    ensures given { view_of result.0 ≡ given (view_of store.old.code_seat) }
+{
+    let code_seat = store.code.split(&mut store.code_seat);
+    let profile_seat = store.profile.split(&mut store.profile_seat);
+    (code_seat, profile_seat)
 }

@@ -1,6 +1,6 @@
 //! The seats of roles that have ended, joined into those of the store.
 
-ghost use Rattle.std.specs.Prelude.{◌≡◌, ◌++◌, None, false, reverse, All, IfOk, OnOk};
+ghost use Rattle.std.specs.Prelude.{◌≡◌, [], ◌∷◌, ◌++◌, None, false, reverse, All, IfOk, OnOk};
 ghost use Rattle.cj_profile.specs.Seats as counts;
 ghost use Rattle.cj_publish.specs.Seats.{view_of, Belongs};
 ghost use Rattle.cj_roles.specs.Slots.{SlotJoins};
@@ -61,9 +61,17 @@ fn join_slot(store: &mut Store, slot: Slot, answers: &mut Answers) -> Result<(),
         profile_seat,
     } = done;
     join_seats(store, code_seat, profile_seat);
-    answers.piles.push_back(reports)?;
-    append(&mut answers.work, work)?;
+    keep(answers, reports, work)?;
     Ok(())
+}
+
+/// Keeps the reports and the notes of a role behind those of the roles before it.
+fn keep(answers: &mut Answers, reports: VecDeque<Report>, work: Works) -> Result<(), NoMemory>
+    ensures piles { OnOk result (answers.new.piles.items ≡ answers.old.piles.items ++ reports ∷ []) }
+    ensures work { OnOk result (answers.new.work ≡ answers.old.work ++ work) }
+{
+    answers.piles.push_back(reports)?;
+    append(&mut answers.work, work)
 }
 
 /// Joins two seats into those of the store.

@@ -1,4 +1,3 @@
-use Rattle.std.proofs.Common.{rules}
 use Rattle.cj_roles.proofs.joining.join_slot.Goals as goal
 
 pub returns : goal.returns
@@ -6,7 +5,6 @@ returns c = record {
   done = c.in-Ended.done;
   is_done = c.in-Ended.is;
   takes = c.join_seats.ensures;
-  piles = c.in_ok-push_back.ensures.items;
-  work =
-      c.in_ok-append.ensures;
+  piles = c.in_ok-keep.ensures.piles;
+  work = c.in_ok-keep.ensures.work;
 }
