@@ -59,9 +59,9 @@ not_six s (inl e) six = let never : 0 ≡ 6 = sym e ∙ six in absurd (omega ari
 not_six s (inr e) six = let never : 5 ≡ 6 = sym e ∙ six in absurd (omega arith)
 
 -- what is owed was written
-pub written : (IsOwed : Made → List ℕ → Type 0) (made : Made) (owed : List ℕ) (had has : Option (List ℕ)) (faults faults_now : ℕ) (f : Finish) →
+pub written : {IsOwed : Made → List ℕ → Type 0} {made : Made} {owed : List ℕ} {had has : Option (List ℕ)} {faults faults_now : ℕ} {f : Finish} →
     IsOwed made owed → Writes made owed had has faults faults_now f → Finishes IsOwed had has faults faults_now f
-written IsOwed made owed had has faults faults_now f owes w =
+written {IsOwed = IsOwed} {owed = owed} {f = f} owes w =
     let owed_now : IsOwed f.made owed = subst (λ (m : Made). IsOwed m owed) (sym w.kept) owes in
     record {
       some = written_some f.status w.some;
@@ -74,9 +74,9 @@ written IsOwed made owed had has faults faults_now f owes w =
     }
 
 -- want of memory: nothing was written
-pub wanted : (IsOwed : Made → List ℕ → Type 0) (had : Option (List ℕ)) (faults : ℕ) (f : Finish) → f.status ≡ 6 → f.refused ≡ None → IsNothing f.made →
+pub wanted : {IsOwed : Made → List ℕ → Type 0} {had : Option (List ℕ)} {faults : ℕ} {f : Finish} → f.status ≡ 6 → f.refused ≡ None → IsNothing f.made →
     Finishes IsOwed had had faults faults f
-wanted IsOwed had faults f status refused nothing = record {
+wanted {had = had} status refused nothing = record {
   some = inr (inr status);
   refused = refused;
   done = λ s. let never : 6 ≡ 0 = sym status ∙ s in absurd (omega arith);
@@ -144,10 +144,10 @@ written_faults IsOwed o f calm fin = record {
   write_calm = fin.calm;
 }
 
-pub read_answers : {A : Type 0} (R : List ℕ → Result A Refused → Type 0) (IsOwed : A → Made → List ℕ → Type 0) (i : A) (o : Outside) (f : Finish) →
+pub read_answers : {A : Type 0} {R : List ℕ → Result A Refused → Type 0} {IsOwed : A → Made → List ℕ → Type 0} {i : A} {o : Outside} {f : Finish} →
     WasRead R o.given o.left (Ok i) → o.read_faults_now ≡ o.read_faults → Finishes (IsOwed i) o.had o.has o.write_faults o.write_faults_now f →
     Answers R IsOwed o f
-read_answers R IsOwed i o f read calm fin = record {
+read_answers {R = R} {IsOwed = IsOwed} {i = i} {o = o} {f = f} read calm fin = record {
   headline = read_stands R IsOwed i o f read fin;
   causes = read_causes R IsOwed i o f read fin;
   faults = written_faults (IsOwed i) o f calm fin;
@@ -156,9 +156,9 @@ read_answers R IsOwed i o f read calm fin = record {
 
 -- ---- the bench, which reads nothing
 
-pub benched : (IsOwed : Made → List ℕ → Type 0) (given had has : Option (List ℕ)) (reads writes writes_now : ℕ) (f : Finish) →
+pub benched : {IsOwed : Made → List ℕ → Type 0} {had has : Option (List ℕ)} {writes writes_now : ℕ} {f : Finish} (given : Option (List ℕ)) (reads : ℕ) →
     Finishes IsOwed had has writes writes_now f → AnswersUnread IsOwed (outside given given had has reads reads writes writes_now) f
-benched IsOwed given had has reads writes writes_now f fin =
+benched {IsOwed = IsOwed} {had = had} {has = has} {writes = writes} {writes_now = writes_now} {f = f} given reads fin =
     let o : Outside = outside given given had has reads reads writes writes_now in
     record {
       headline = told_stands IsOwed IsOwed o f (λ made owed owes. owes) fin;
@@ -277,10 +277,10 @@ no_answer stop.TooLong f fin = (λ e. apart f.status 7 0 fin.status e (omega ari
 no_answer stop.NoMemory f fin = (λ e. apart f.status 6 0 fin.status e (omega arith), λ e. apart f.status 6 5 fin.status e (omega arith))
 
 -- a call that stopped before it touched the sink
-pub stopped : {A : Type 0} (R : List ℕ → Result A Refused → Type 0) (IsOwed : A → Made → List ℕ → Type 0) (given left had : Option (List ℕ))
-    (faults faults_now writes : ℕ) (s : Stop) (f : Finish) → StopStands R given left faults faults_now s → StopFinishes s f →
+pub stopped : {A : Type 0} {R : List ℕ → Result A Refused → Type 0} {IsOwed : A → Made → List ℕ → Type 0} {given left had : Option (List ℕ)}
+    {faults faults_now writes : ℕ} {s : Stop} {f : Finish} → StopStands R given left faults faults_now s → StopFinishes s f →
     Answers R IsOwed (outside given left had had faults faults_now writes writes) f
-stopped R IsOwed given left had faults faults_now writes s f stands fin =
+stopped {R = R} {IsOwed = IsOwed} {given = given} {left = left} {had = had} {faults = faults} {faults_now = faults_now} {writes = writes} {s = s} {f = f} stands fin =
     let o : Outside = outside given left had had faults faults_now writes writes in
     let no = no_answer s f fin in
     record {
