@@ -26,7 +26,8 @@ module _ (P : Program) (start : Progress) where
     headline = subst (HasHeadline P []) (sym none) tt;
     shows = λ (setups : List Setup) (p : Prepared P setups setups start.work (view_at start.seats) (reads_at start.seats)).
         subst (λ (rs : List Report). RoundsShow P setups [] rs start.work (view_at start.seats) (reads_at start.seats)) (sym none)
-        (alone_none P setups start.work (view_at start.seats) (reads_at start.seats) ok p.acted.are_warm p.acted.notes p.acted.lookups p.acted.in_parts p.alone);
+        (alone_none P setups start.work (view_at start.seats) (reads_at start.seats) ok p.acted.are_warm p.acted.notes p.acted.lookups p.acted.in_parts
+        p.alone);
   }
 
   -- one round more

@@ -1,23 +1,8 @@
 -- Seats that stay the same seats.
 use Rattle.std.proofs.Common.{◌∙◌, refl}
-use Rattle.cj_profile.specs.declared.profile.ProfileSeat.{ProfileSeat}
-use Rattle.cj_profile.specs.Seats as counts
-use Rattle.cj_publish.specs.declared.seats.CodeSeat.{CodeSeat}
-use Rattle.cj_publish.specs.Seats.{IsSame}
+use Rattle.cj_parts.proofs.Seats.{code_same, code_same_on, profile_same, profile_same_on}
 use Rattle.cj_alone.specs.declared.seats.Seats.{Seats}
 use Rattle.cj_alone.specs.Seats.{AreSame}
-
-pub code_same : (s : CodeSeat) → IsSame s s
-code_same s = record { table = refl; first = refl; splits = refl; sole = refl }
-
-pub code_same_on : (s t u : CodeSeat) → IsSame s t → IsSame t u → IsSame s u
-code_same_on s t u g h = record { table = h.table ∙ g.table; first = h.first ∙ g.first; splits = h.splits ∙ g.splits; sole = h.sole ∙ g.sole }
-
-pub profile_same : (s : ProfileSeat) → counts.IsSame s s
-profile_same s = record { first = refl; sole = refl; splits = refl; joined = refl }
-
-pub profile_same_on : (s t u : ProfileSeat) → counts.IsSame s t → counts.IsSame t u → counts.IsSame s u
-profile_same_on s t u g h = record { first = h.first ∙ g.first; sole = h.sole ∙ g.sole; splits = h.splits ∙ g.splits; joined = h.joined ∙ g.joined }
 
 pub seats_same : (s : Seats) → AreSame s s
 seats_same s = record { code = code_same s.code; joined = refl; profile = profile_same s.profile }

@@ -12,6 +12,7 @@ use Rattle.cj_publish.specs.Seats.{view_of}
 use Rattle.cj_notes.specs.declared.notes.WorkNote.{WorkNote}
 use Rattle.cj_notes.specs.Works.{Warmed}
 use Rattle.cj_worker.specs.declared.worker.Worker.{Worker}
+use Rattle.cj_worker.proofs.Turning.{stays_same, stays_on}
 use Rattle.cj_worker.specs.Workers.{program_in, view_in, reads_in, IsReady, Stays}
 use Rattle.cj_records.specs.Setups.{SetupPart, warm_lines}
 use Rattle.cj_records.specs.Loops.{Prepared}
@@ -19,7 +20,6 @@ use Rattle.cj_records.proofs.Roles.{hint_push, warm_push, warm_skip}
 use Rattle.cj_alone.specs.declared.seats.Seats.{Seats}
 use Rattle.cj_alone.specs.Seats.{view_at, reads_at}
 use Rattle.cj_alone.specs.Preparing.{HintsPart, WarmsUp, WarmedUp, HasWarmedUp}
-use Rattle.cj_alone.proofs.Keeping.{code_same, code_same_on, profile_same, profile_same_on}
 
 -- a loop has come to one item more
 one_more : {A : Type 0} (P : List A → Type 0) (xs : List A) (i : ℕ) (d : A) → i < length xs → P (take i xs ++ get_or xs i d ∷ []) → P (take (i + 1) xs)
@@ -37,24 +37,6 @@ hints_more P setups i d a b c within h k = one_more (λ (xs : List Setup). count
 )
 
 -- ---- `warm` lines
-
-stays_on : (a b c : Worker) → Stays a b → Stays b c → Stays a c
-stays_on a b c g h = record {
-  checked = h.checked ∙ g.checked;
-  table = h.table ∙ g.table;
-  profile = h.profile ∙ g.profile;
-  code_same = code_same_on a.code_seat b.code_seat c.code_seat g.code_same h.code_same;
-  profile_same = profile_same_on a.profile_seat b.profile_seat c.profile_seat g.profile_same h.profile_same;
-}
-
-stays_same : (a : Worker) → Stays a a
-stays_same a = record {
-  checked = refl;
-  table = refl;
-  profile = refl;
-  code_same = code_same a.code_seat;
-  profile_same = profile_same a.profile_seat;
-}
 
 module _ (a b : Worker) (before after : List WorkNote) where
   -- what one setup does to what was joined, and to the preparation

@@ -213,6 +213,9 @@ at_most given left known rest gave is kept more =
     let Q : Option (List ℕ) → Type 0 = λ l. GaveAtMost (Some known) l longest in
     let short : length known ≤ longest + length rest = subst Q kept (subst P is gave) in omega arith
 
+too_short : (bytes : List ℕ) → length bytes ≤ longest → longest < length bytes → ⊥
+too_short bytes short more = omega arith
+
 stop_causes : {A : Type 0} (R : List ℕ → Result A Refused → Type 0) (o : Outside) (s : Stop) (f : Finish) →
     StopStands R o.given o.left o.read_faults o.read_faults_now s → StopFinishes s f → HasCauses R o f
 stop_causes R o (stop.Refused r) f stands fin = record {
@@ -243,9 +246,6 @@ stop_causes R o stop.TooLong f stands fin = record {
   long = λ e. stands.0;
   long_owed = λ told. inl fin.status;
 }
-  where
-    too_short : (bytes : List ℕ) → length bytes ≤ longest → longest < length bytes → ⊥
-    too_short bytes short more = omega arith
 stop_causes R o stop.NoMemory f stands fin = record {
   some = inr (inr (inr (inr (inl fin.status))));
   refused = λ e. apart f.status 6 3 fin.status e (omega arith);
@@ -264,9 +264,6 @@ stop_complete R o (stop.Refused r) f stands fin calm =
 stop_complete R o stop.ReadFault f stands fin calm = absurd (calm.no_read_fault stands.0)
 stop_complete R o stop.TooLong f stands fin calm =
     let more : longest < length calm.bytes = longer o.given o.left calm.bytes stands.0 calm.given in absurd (too_short calm.bytes calm.short more)
-  where
-    too_short : (bytes : List ℕ) → length bytes ≤ longest → longest < length bytes → ⊥
-    too_short bytes short more = omega arith
 stop_complete R o stop.NoMemory f stands fin calm = inr fin.status
 
 -- another status than 0 and 5
@@ -280,8 +277,8 @@ no_answer stop.NoMemory f fin = (λ e. apart f.status 6 0 fin.status e (omega ar
 pub stopped : {A : Type 0} {R : List ℕ → Result A Refused → Type 0} {IsOwed : A → Made → List ℕ → Type 0} {given left had : Option (List ℕ)}
     {faults faults_now writes : ℕ} {s : Stop} {f : Finish} → StopStands R given left faults faults_now s → StopFinishes s f →
     Answers R IsOwed (outside given left had had faults faults_now writes writes) f
-stopped {R = R} {IsOwed = IsOwed} {given = given} {left = left} {had = had} {faults = faults} {faults_now = faults_now} {writes = writes} {s = s} {f = f} stands fin =
-    let o : Outside = outside given left had had faults faults_now writes writes in
+stopped {R = R} {IsOwed = IsOwed} {given = given} {left = left} {had = had} {faults = faults} {faults_now = now} {writes = writes} {s = s} {f = f} stands fin =
+    let o : Outside = outside given left had had faults now writes writes in
     let no = no_answer s f fin in
     record {
       headline = stop_stands R IsOwed o f (Appends-nil had) fin.nothing no.0 no.1;

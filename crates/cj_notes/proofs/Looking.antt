@@ -16,10 +16,6 @@ use Rattle.cj_notes.specs.Jobs.{job}
 use Rattle.cj_notes.specs.JobParts.{LooksAt, Marks, Takes, TakesFirst}
 
 -- a list stands in itself, in order
-all_among : {A : Type 0} (xs ys : List A) → Among xs ys → (x : A) → Among xs (x ∷ ys)
-all_among [] ys h x = h
-all_among (y ∷ xs) ys h x = (x ∷ h.0, h.1, ap (λ (l : List _). x ∷ l) h.2, h.3)
-
 pub among_self : {A : Type 0} (xs : List A) → Among xs xs
 among_self [] = tt
 among_self (x ∷ xs) = ([], xs, refl, among_self xs)

@@ -87,7 +87,8 @@ module _ (P : Program) where
   own_snapshot (Taken f found) j rs e h = let never : None ≡ Some j = e in absurd cc
 
   pub warm_snapshot : (note : WorkNote) (j : Job) (rs : List Read) → job_of note ≡ Some j → WarmPart P note rs
-      → (found : ℕ) × (rest : List Read) × All Keeps rest × Among (snapshot_loads j.function j.snapshot) rest × (rs ≡ (raise (word.Taken j.function) found j.level ∷ []) ++ rest)
+      → (found : ℕ) × (rest : List Read) × All Keeps rest × Among (snapshot_loads j.function j.snapshot) rest
+        × (rs ≡ (raise (word.Taken j.function) found j.level ∷ []) ++ rest)
   warm_snapshot note j rs e h =
       let k : MarkedPart P j rs = subst (λ (x : Job). MarkedPart P x rs) (same_Some h.0 j (sym h.1 ∙ e)) h.2 in
       (k.0, k.1, k.2.keep, k.2.loads, k.3)

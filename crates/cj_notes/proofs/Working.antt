@@ -117,6 +117,12 @@ module _ (P : Program) (f : FunId) (level : ℕ) (s : Snapshot) (code : Code) (s
       taken_b : b.taken ≡ v.taken + word_count code
       taken_b = ap (λ (x : View). x.taken) b_is ∙ ap (λ (x : View). x.taken) claimed.0 ∙ ap (λ (n : ℕ). v.taken + n) (count_of words code spells)
 
+      joined_b : b.joined ≡ v.joined
+      joined_b = ap (λ (x : View). x.joined) b_is ∙ ap (λ (x : View). x.joined) claimed.0
+
+      lookups_b : b.lookups ≡ v.lookups
+      lookups_b = ap (λ (x : View). x.lookups) b_is ∙ ap (λ (x : View). x.lookups) claimed.0
+
       outcomes_b : b.outcomes ≡ v.outcomes
       outcomes_b = ap (λ (x : View). x.outcomes) b_is ∙ ap (λ (x : View). x.outcomes) claimed.0
 
@@ -143,8 +149,8 @@ module _ (P : Program) (f : FunId) (level : ℕ) (s : Snapshot) (code : Code) (s
           record {
             learns = learned;
             claim = h.4;
-            joined = gains.joined ∙ ap (λ (x : View). x.joined) b_is ∙ ap (λ (x : View). x.joined) claimed.0;
-            lookups = gains.lookups ∙ ap (λ (x : View). x.lookups) b_is ∙ ap (λ (x : View). x.lookups) claimed.0;
+            joined = gains.joined ∙ joined_b;
+            lookups = gains.lookups ∙ lookups_b;
             cause = record {
               has_code = (made, spellable words code spells);
               shown = (words, (_, h.5, refl, sym h.2, ap (λ (x : Claim). x.len) is, ap (λ (x : Claim). x.written) is), spells);
@@ -170,8 +176,8 @@ module _ (P : Program) (f : FunId) (level : ℕ) (s : Snapshot) (code : Code) (s
           record {
             learns = learned;
             claim = h.5;
-            joined = gains.joined ∙ ap (λ (x : View). x.joined) b_is ∙ ap (λ (x : View). x.joined) claimed.0;
-            lookups = gains.lookups ∙ ap (λ (x : View). x.lookups) b_is ∙ ap (λ (x : View). x.lookups) claimed.0;
+            joined = gains.joined ∙ joined_b;
+            lookups = gains.lookups ∙ lookups_b;
             cause = record {
               has_code = ((skips, made), spellable words code spells, h.3);
               shown = h.6;

@@ -4,3 +4,4 @@ pub mod Rising
 pub mod Counting
 pub mod Calling
 pub mod Finding
+pub mod Seats

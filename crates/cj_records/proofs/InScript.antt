@@ -21,6 +21,7 @@ use Rattle.cj_records.specs.Items.{ReadsInParts}
 use Rattle.cj_records.specs.Records.{Role, Caller, Worker, Done, Answered, call_items, RoleRecord, IsRecord}
 use Rattle.cj_records.specs.Chains.{flat, share, numbers_from, dealt}
 use Rattle.cj_records.specs.Versions.{HasHeadline, AreV, roles_of, RolesStand, RunStands}
+use Rattle.cj_records.proofs.Heads.{head_or, tail_of}
 use Rattle.cj_records.proofs.Sharing.{AsLong, all_dealt}
 
 -- a caller's reads hold that its reports are V's
@@ -44,14 +45,6 @@ zip_of R answered calls reports e f h =
 IsCons : {A : Type 0} → List A → Type 0
 IsCons [] = ⊥
 IsCons (x ∷ xs) = ⊤
-
-head_or : {A : Type 0} → A → List A → A
-head_or d [] = d
-head_or d (x ∷ xs) = x
-
-tail_of : {A : Type 0} → List A → List A
-tail_of [] = []
-tail_of (x ∷ xs) = xs
 
 module _ (P : Program) (codes : Codes) (c : ℕ) (floor : List Look) (chains : List (List Begun)) (answers : List (List Report)) where
   calls_at : ℕ → List Begun

@@ -1,3 +1,4 @@
+pub mod Heads
 pub mod Growth
 pub mod Published
 pub mod OneThread

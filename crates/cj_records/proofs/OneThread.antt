@@ -126,8 +126,8 @@ module _ (P : Program) (setups : List Setup) where
           notes = noted;
           in_time = alone.in_time;
           newest = newest_push (published_by h.warm) h.rounds round h.newest
-              (subst (λ (l : List Look). All (IsNewest l) r.looks) (ap published_by h.are_notes ∙ published_append h.warm (map (λ (x : Round). x.note) h.rounds))
-              newest);
+              (subst (λ (l : List Look). All (IsNewest l) r.looks)
+              (ap published_by h.are_notes ∙ published_append h.warm (map (λ (x : Round). x.note) h.rounds)) newest);
           lookups = lookups;
           rises = looks_never_fall c (looks_of (reports ++ r ∷ [])) ok lookups;
           in_parts = subst (λ (is : List Item). ReadsInParts P (known_codes c) is third) its

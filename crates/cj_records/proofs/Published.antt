@@ -2,7 +2,8 @@
 use Rattle.std.proofs.Common.{◌≡◌, ◌⊎◌, ◌∙◌, refl, sym, ap, subst, inl, inr, ⊎_elim, true, ℕ, ◌≤◌, List, [], ◌∷◌, ◌++◌, map, append_assoc, Option, Some, None}
 use Rattle.std.specs.Prelude.{All, Contains}
 use Rattle.std.specs.Option.{IsSomeAnd}
-use Rattle.std.proofs.lemmas.List.Elements.{All-nil, All-cons, All-head, All-tail, All-append, All-push, All-weaker, Contains-append_left, Contains-append_right}
+use Rattle.std.proofs.lemmas.List.Elements.{All-nil, All-cons, All-head, All-tail, All-append, All-push, All-weaker}
+use Rattle.std.proofs.lemmas.List.Elements.{Contains-append_left, Contains-append_right}
 use Rattle.cj_ir.specs.declared.language.Program.{Program}
 use Rattle.cj_draft.specs.declared.code.Code.{Code}
 use Rattle.cj_calls.specs.declared.report.Look.{Look}

@@ -1,7 +1,7 @@
 -- The calls of a caller, one by one.
-use Rattle.std.proofs.Common.{◌≡◌, ◌∙◌, refl, sym, ap, subst, ℕ, zero, suc, ◌+◌, ◌<◌, ◌≤◌, List, [], ◌∷◌, ◌++◌, map, length, drop, get_or, arith, append_assoc}
+use Rattle.std.proofs.Common.{◌≡◌, ◌∙◌, refl, sym, ap, subst, ℕ, ◌+◌, ◌<◌, ◌≤◌, List, [], ◌∷◌, ◌++◌, map, length, drop, get_or, arith, append_assoc}
 use Rattle.std.proofs.Common.{append-nil}
-use Rattle.std.proofs.lemmas.List.{map_push}
+use Rattle.std.proofs.lemmas.List.{map_push, drop_all}
 use Rattle.cj_ir.specs.declared.script.ScriptCall.{ScriptCall}
 use Rattle.cj_ir.specs.declared.language.Program.{Program}
 use Rattle.cj_base.specs.Run.{Begun, begun}
@@ -15,12 +15,6 @@ use Rattle.cj_records.specs.Loops.{CallsMade}
 use Rattle.cj_records.proofs.Roles.{calls_push}
 use Rattle.cj_roles.specs.Calls.{RunsCall, RunsCalls}
 use Rattle.cj_roles.proofs.Shares.{share_drop, share_next}
-
-pub no_more : {A : Type 0} (xs : List A) (n : ℕ) → length xs ≤ n → drop n xs ≡ []
-no_more [] zero h = refl
-no_more [] (suc n) h = refl
-no_more (x ∷ xs) zero h = absurd (omega (arith, h))
-no_more (x ∷ xs) (suc n) h = no_more xs n (omega (arith, h))
 
 -- the calls that fall to the caller and stand before the one at that index have run
 pub record RunsSome (calls : List ScriptCall) (callers first at : ℕ) (reports : List Report) (a b : Session) : Type 0 where
@@ -54,7 +48,7 @@ module _ (calls : List ScriptCall) (callers first : ℕ) (a : Session) where
     pub runs_all : length calls ≤ at → RunsCalls (map begun (share callers first calls)) reports a b
     unfolding share
     runs_all le =
-        let none : share callers 0 (drop at calls) ≡ [] = ap (share callers 0) (no_more calls at le) in
+        let none : share callers 0 (drop at calls) ≡ [] = ap (share callers 0) (drop_all at calls le) in
         let same : h.so_far ≡ share callers first calls = sym (append-nil h.so_far) ∙ ap (λ l. h.so_far ++ l) (sym none) ∙ h.all in
         λ (floor : List Look) (k : CallsMade a.checked.now floor [] [] (view_in a) (reads_in a)).
         subst (λ (cs : List ScriptCall). CallsMade a.checked.now floor (map begun cs) reports (view_in b) (reads_in b)) same (h.runs floor k)

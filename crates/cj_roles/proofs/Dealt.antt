@@ -2,7 +2,7 @@
 use Rattle.std.proofs.Common.{◌≡◌, ◌∙◌, refl, sym, ap, subst, ℕ, zero, suc, ◌+◌, ◌<◌, ◌≤◌, List, [], ◌∷◌, ◌++◌, map, replicate, length, arith, append_assoc}
 use Rattle.std.proofs.Common.{append-nil, length-append}
 use Rattle.std.specs.List.{AllZip}
-use Rattle.std.proofs.lemmas.List.{map_push}
+use Rattle.std.proofs.lemmas.List.{map_push, length-replicate}
 use Rattle.cj_profile.specs.declared.profile.Profile.{Profile}
 use Rattle.cj_publish.specs.declared.seats.CodeTable.{CodeTable}
 use Rattle.cj_publish.specs.Seats.{view_of}
@@ -81,21 +81,17 @@ workers_more roles callers n =
     ap (λ m. roles ++ replicate m (Worker callers)) one ∙ ap (λ l. roles ++ l) (replicate_push n (Worker callers))
     ∙ sym (append_assoc roles (replicate n (Worker callers)) (Worker callers ∷ []))
 
-length_numbers : {B : Type 0} (f : ℕ → B) (k n : ℕ) → length (map f (numbers_from k n)) ≡ n
+pub length_numbers : {B : Type 0} (f : ℕ → B) (k n : ℕ) → length (map f (numbers_from k n)) ≡ n
 unfolding numbers_from
 length_numbers f k zero = refl
 length_numbers f k (suc n) = ap suc (length_numbers f (k + 1) n)
-
-length_same : {A : Type 0} (n : ℕ) (x : A) → length (replicate n x) ≡ n
-length_same zero x = refl
-length_same (suc n) x = ap suc (length_same n x)
 
 pub length_callers : (callers n : ℕ) → length (callers_to callers n) ≡ n
 length_callers callers n = length_numbers (λ (first : ℕ). Caller first callers) 0 n
 
 pub length_roles : (callers n m : ℕ) → length (callers_to callers n ++ replicate m (Worker callers)) ≡ n + m
 length_roles callers n m = omega
-    (arith, length-append (callers_to callers n) (replicate m (Worker callers)), length_callers callers n, length_same m (Worker callers))
+    (arith, length-append (callers_to callers n) (replicate m (Worker callers)), length_callers callers n, length-replicate m (Worker callers))
 
 -- ---- the loops
 

@@ -17,6 +17,7 @@ use Rattle.cj_publish.specs.declared.view.View.{View}
 use Rattle.cj_publish.specs.declared.seats.CodeTable.{CodeTable}
 use Rattle.cj_publish.specs.declared.seats.CodeSeat.{CodeSeat}
 use Rattle.cj_publish.specs.Seats.{view_of, key_of, program_of, Belongs, IsSame}
+use Rattle.cj_parts.proofs.Seats.{profile_same_on}
 use Rattle.cj_notes.specs.declared.notes.WorkNote.{WorkNote}
 use Rattle.cj_notes.specs.Waiting.{WorksOn, TurnsDone}
 use Rattle.cj_records.specs.Loops.{IsSeen, CallsMade}
@@ -87,9 +88,6 @@ module _ (t : CodeTable) (p : Profile) (s : CodeSeat) (q : ProfileSeat) (new : A
             (subst (λ (rs : List Read). TurnsDone (program_of t) callers done.work (view_of s) (view_of s') rs (counts.reads_of q')) new.is_new.reads turns));
       }
 
-counts_same_on : (s t u : ProfileSeat) → counts.IsSame s t → counts.IsSame t u → counts.IsSame s u
-counts_same_on s t u g h = record { first = h.first ∙ g.first; sole = h.sole ∙ g.sole; splits = h.splits ∙ g.splits; joined = h.joined ∙ g.joined }
-
 module _ (shared : Shared) (run : IsRun shared) (s : CodeSeat) (q : ProfileSeat) (new : AreNew shared.code.now shared.profile.now s q) (done : RoleDone) where
   T : CodeTable
   T = shared.code.now
@@ -111,7 +109,7 @@ module _ (shared : Shared) (run : IsRun shared) (s : CodeSeat) (q : ProfileSeat)
       let joined : (view_of last.code_seat).joined ≡ (view_of s).joined = stays.joined ∙ ap (λ (x : CodeSeat). (view_of x).joined) seats.0 in
       let taken : (view_of last.code_seat).taken ≡ (view_of s).taken = stays.taken ∙ ap (λ (x : CodeSeat). (view_of x).taken) seats.0 in
       let ended : (view_of last.code_seat).outcomes ≡ (view_of s).outcomes = stays.outcomes ∙ ap (λ (x : CodeSeat). (view_of x).outcomes) seats.0 in
-      let counted_on : counts.IsSame q q' = counts_same_on q last.profile_seat q'
+      let counted_on : counts.IsSame q q' = profile_same_on q last.profile_seat q'
       (subst (λ (x : ProfileSeat). counts.IsSame x last.profile_seat) seats.1 stays.profile_same) counted in
       let program : start.checked.now ≡ program_of T = tables.0 ∙ sym run.program in
       let cs : List Begun = map begun (share callers first shared.calls.now) in

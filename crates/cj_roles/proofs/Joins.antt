@@ -11,9 +11,9 @@ use Rattle.cj_calls.specs.declared.report.Report.{Report}
 use Rattle.cj_profile.specs.declared.view.Read.{Read}
 use Rattle.cj_profile.specs.Seats as counts
 use Rattle.cj_publish.specs.declared.view.View.{View}
-use Rattle.cj_publish.specs.declared.seats.CodeSeat.{CodeSeat}
 use Rattle.cj_publish.specs.Seats.{view_of, key_of, program_of, Belongs, IsSame}
 use Rattle.cj_publish.specs.Views.{given, joined_view}
+use Rattle.cj_parts.proofs.Seats.{code_same_on}
 use Rattle.cj_notes.specs.declared.notes.WorkNote.{WorkNote}
 use Rattle.cj_records.specs.declared.store.Store.{Store}
 use Rattle.cj_records.specs.Records as record_of
@@ -59,9 +59,6 @@ same_store a = record {
       refl;
   profile_splits = refl;
 }
-
-code_same_on : (s t u : CodeSeat) → IsSame s t → IsSame t u → IsSame s u
-code_same_on s t u g h = record { table = h.table ∙ g.table; first = h.first ∙ g.first; splits = h.splits ∙ g.splits; sole = h.sole ∙ g.sole }
 
 same_on : (a b c : Store) → IsSameStore a b → IsSameStore b c → IsSameStore a c
 same_on a b c g h = record {

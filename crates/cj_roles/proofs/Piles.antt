@@ -1,18 +1,11 @@
 -- Reports taken from the piles, one by one.
-use Rattle.std.proofs.Common.{◌≡◌, ◌∙◌, refl, sym, ap, subst, ℕ, zero, suc, ◌+◌, ◌<◌, List, [], ◌∷◌, ◌++◌, map, drop, length, arith, append_assoc, append-nil}
+use Rattle.std.proofs.Common.{◌≡◌, ◌∙◌, refl, sym, ap, subst, ℕ, suc, ◌+◌, ◌<◌, List, [], ◌∷◌, ◌++◌, map, drop, length, arith, append_assoc, append-nil}
 use Rattle.std.proofs.Common.{length-append}
 use Rattle.std.proofs.lemmas.List.{map_push}
+use Rattle.cj_records.proofs.Heads.{head_or, tail_of}
 use Rattle.cj_records.specs.Chains.{alone_each, dealt}
 use Rattle.cj_roles.specs.Piles.{ArePiles, IsFirst, TakesFirst}
 use Rattle.cj_roles.proofs.Shares.{shares, dealt_alone, take_first, put_first}
-
-first_or : {B : Type 0} → B → List B → B
-first_or d [] = d
-first_or d (x ∷ xs) = x
-
-rest : {B : Type 0} → List B → List B
-rest [] = []
-rest (x ∷ xs) = xs
 
 module _ {A : Type 0} where
   -- the piles by the shares of their number
@@ -24,13 +17,13 @@ module _ {A : Type 0} where
 
   -- what is taken was the first of all
   pub taken : (x : A) (old new : List (List A)) (y : A) (ys : List A) → TakesFirst x old new → ArePiles (y ∷ ys) old → (y ≡ x) × ArePiles ys new
-  unfolding first_or rest
+  unfolding head_or tail_of
   taken x old new y ys t h =
       let n = length t.1 in
       let all : ArePiles (y ∷ ys) ((x ∷ t.0) ∷ t.1) = subst (ArePiles (y ∷ ys)) t.2 h in
       let both = take_first n y ys (x ∷ t.0) t.1 (as_shares (suc n) (y ∷ ys) ((x ∷ t.0) ∷ t.1) refl all.are) in
-      let pile : t.0 ≡ _ = ap rest both.0 in (
-        sym (ap (first_or x) both.0),
+      let pile : t.0 ≡ _ = ap tail_of both.0 in (
+        sym (ap (head_or x) both.0),
         subst (ArePiles ys) (sym t.3)
             (from_shares n ys (t.1 ++ t.0 ∷ []) (omega (arith, length-append t.1 (t.0 ∷ []))) (both.1 ∙ ap (λ l. t.1 ++ l ∷ []) (sym pile))),
       )

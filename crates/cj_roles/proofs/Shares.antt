@@ -4,6 +4,7 @@ use Rattle.std.proofs.Common.{length-append}
 use Rattle.std.specs.List.{AllZip}
 use Rattle.std.proofs.lemmas.List.{map_push}
 use Rattle.cj_parts.proofs.Growth.{zip_push}
+use Rattle.cj_records.proofs.Heads.{head_or, tail_of}
 use Rattle.cj_records.specs.Chains.{flat, alone_each, share, numbers_from, dealt}
 
 pub flat_alone : {A : Type 0} (xs : List A) → flat (alone_each xs) ≡ xs
@@ -69,21 +70,13 @@ unfolding numbers_from
 map_next f k zero = refl
 map_next f k (suc n) = let e : k + 1 ≡ suc k = omega arith in λ i. f (e i) ∷ map_next f (k + 1) n i
 
-first_or : {A : Type 0} → A → List A → A
-first_or d [] = d
-first_or d (x ∷ xs) = x
-
-rest : {A : Type 0} → List A → List A
-rest [] = []
-rest (x ∷ xs) = xs
-
 -- two lists that end with an item are equal where their fronts and last items are
 snoc_is : {A : Type 0} (xs ys : List A) (x y : A) → xs ++ x ∷ [] ≡ ys ++ y ∷ [] → (xs ≡ ys) × (x ≡ y)
-unfolding first_or rest
-snoc_is [] [] x y e = (refl, ap (first_or x) e)
-snoc_is [] (z ∷ ys) x y e = let l : 0 ≡ length (ys ++ y ∷ []) = ap length (ap rest e) in absurd (omega (arith, l, length-append ys (y ∷ [])))
-snoc_is (z ∷ xs) [] x y e = let l : length (xs ++ x ∷ []) ≡ 0 = ap length (ap rest e) in absurd (omega (arith, l, length-append xs (x ∷ [])))
-snoc_is (z ∷ xs) (w ∷ ys) x y e = let h = snoc_is xs ys x y (ap rest e) in (λ i. ap (first_or z) e i ∷ h.0 i, h.1)
+unfolding head_or tail_of
+snoc_is [] [] x y e = (refl, ap (head_or x) e)
+snoc_is [] (z ∷ ys) x y e = let l : 0 ≡ length (ys ++ y ∷ []) = ap length (ap tail_of e) in absurd (omega (arith, l, length-append ys (y ∷ [])))
+snoc_is (z ∷ xs) [] x y e = let l : length (xs ++ x ∷ []) ≡ 0 = ap length (ap tail_of e) in absurd (omega (arith, l, length-append xs (x ∷ [])))
+snoc_is (z ∷ xs) (w ∷ ys) x y e = let h = snoc_is xs ys x y (ap tail_of e) in (λ i. ap (head_or z) e i ∷ h.0 i, h.1)
 
 module _ {A : Type 0} (n : ℕ) where
   others : List A → List (List A)
@@ -102,10 +95,10 @@ module _ {A : Type 0} (n : ℕ) where
   -- the first report is the first pile's, which comes last from then on
   pub take_first : (x : A) (xs p : List A) (ps : List (List A)) → shares (suc n) (x ∷ xs) ≡ p ∷ ps →
       (p ≡ x ∷ share (suc n) n xs) × (shares (suc n) xs ≡ ps ++ share (suc n) n xs ∷ [])
-  unfolding first_or rest others
+  unfolding head_or tail_of others
   take_first x xs p ps e =
       let both = sym (shares_cons x xs) ∙ e in
-      (sym (ap (first_or p) both), shares_last xs ∙ ap (λ l. l ++ share (suc n) n xs ∷ []) (ap rest both))
+      (sym (ap (head_or p) both), shares_last xs ∙ ap (λ l. l ++ share (suc n) n xs ∷ []) (ap tail_of both))
 
   -- a report before the others, from the pile that came last
   pub put_first : (x : A) (xs q : List A) (ps : List (List A)) → shares (suc n) xs ≡ ps ++ q ∷ [] → shares (suc n) (x ∷ xs) ≡ (x ∷ q) ∷ ps

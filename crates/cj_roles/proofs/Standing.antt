@@ -3,7 +3,7 @@ use Rattle.std.proofs.Common.{◌≡◌, ◌∙◌, refl, sym, ap, subst, ℕ, z
 use Rattle.std.proofs.Common.{length, arith, append-nil}
 use Rattle.std.specs.Prelude.{All}
 use Rattle.std.specs.List.{AllZip}
-use Rattle.std.proofs.lemmas.List.{map-append, length-map, take_all}
+use Rattle.std.proofs.lemmas.List.{map-append, length-map, take_all, drop_all, nil_from_length}
 use Rattle.std.proofs.lemmas.List.Elements.{All-nil, All-cons, All-head, All-tail, All-append}
 use Rattle.cj_ir.specs.declared.language.Program.{Program}
 use Rattle.cj_ir.specs.declared.script.Input.{Input}
@@ -41,6 +41,7 @@ use Rattle.cj_records.specs.Notes.{published, published_by}
 use Rattle.cj_records.specs.Records as record_of
 use Rattle.cj_records.specs.Loops.{IsSeen, Prepared, IsPrepared}
 use Rattle.cj_records.specs.Versions.{IsWholeStore, HasHeadline, AreV, Joined, RolesStand, RunStands, roles_of, work_of}
+use Rattle.cj_records.proofs.Heads.{head_or, tail_of}
 use Rattle.cj_records.proofs.Sharing.{AsLong}
 use Rattle.cj_records.proofs.Joins.{joined_none, records_known}
 use Rattle.cj_records.proofs.Standing.{over_of, roles_stand}
@@ -58,8 +59,7 @@ use Rattle.cj_roles.specs.Piles.{ArePiles}
 use Rattle.cj_roles.specs.Ran.{RolesRan}
 use Rattle.cj_roles.proofs.Shares.{flat_alone, share_map, shares, dealt_alone, map_same, piled}
 use Rattle.cj_roles.proofs.Piles.{from_shares}
-use Rattle.cj_roles.proofs.Calling.{no_more}
-use Rattle.cj_roles.proofs.Dealt.{length_roles}
+use Rattle.cj_roles.proofs.Dealt.{length_numbers, length_roles}
 
 -- ---- what the notes of the `warm` lines published was seen
 
@@ -93,11 +93,6 @@ map_replicate : {A B : Type 0} (f : A → B) (n : ℕ) (x : A) → map f (replic
 map_replicate f zero x = refl
 map_replicate f (suc n) x = ap (λ l. f x ∷ l) (map_replicate f n x)
 
-length_numbers : {B : Type 0} (f : ℕ → B) (k n : ℕ) → length (map f (numbers_from k n)) ≡ n
-unfolding numbers_from
-length_numbers f k zero = refl
-length_numbers f k (suc n) = ap suc (length_numbers f (k + 1) n)
-
 pub length_dealt : {A : Type 0} (c : ℕ) (xss : List (List A)) → length (dealt c xss) ≡ c
 unfolding dealt
 length_dealt c xss = length_numbers (λ k. flat (share c k xss)) 0 c
@@ -130,14 +125,6 @@ module _ (calls : List ScriptCall) (callers : ℕ) where
       ∙ sym (ap (λ gs. roles_of gs floor workers) groups_are)
 
 -- ---- the reports of the roles
-
-head_or : {A : Type 0} → A → List A → A
-head_or d [] = d
-head_or d (x ∷ xs) = x
-
-tail_of : {A : Type 0} → List A → List A
-tail_of [] = []
-tail_of (x ∷ xs) = xs
 
 abbrev pub role_in : record_of.Done → record_of.Role
 role_in d = d.role
@@ -189,7 +176,7 @@ pub written_back : {A B : Type 0} (R S : A → B → Type 0) (roles : List A) (o
 written_back R S roles old new len e h k =
     let a = zip_length R roles old h in
     let b = zip_length S roles new k in
-    let none : drop (length new) old ≡ [] = no_more old (length new) (omega (arith, a, b)) in
+    let none : drop (length new) old ≡ [] = drop_all (length new) old (omega (arith, a, b)) in
     ap (λ l. take len (new ++ l)) none ∙ ap (take len) (append-nil new) ∙ take_all len new (omega (arith, e, a, b))
 
 take_front : {A : Type 0} (xs ys : List A) → take (length xs) (xs ++ ys) ≡ xs
@@ -298,10 +285,6 @@ module _ (v w : View) (e : but_for_splits w ≡ but_for_splits v) where
   shared_learns = learns_more v w (ap (λ (x : View). x.live) e) (ap (λ (x : View). x.key) e) (let n = next_is in omega (arith, n))
       (λ (x : Region) (has : Has v.regions x). subst (λ (rs : List Region). Has rs x) (sym regions_are) has)
 
-no_items : {A : Type 0} (xs : List A) → length xs ≡ 0 → xs ≡ []
-no_items [] e = refl
-no_items (x ∷ xs) e = absurd (omega (arith, e))
-
 -- what roles share is the input's, over the tables of the store
 pub is_run : (input : Input) (s : Store) (given_to : Shared) → given_to.checked.now ≡ input.checked → given_to.calls.now ≡ input.script.calls →
     given_to.code.now ≡ s.code → given_to.profile.now ≡ s.profile
@@ -329,6 +312,16 @@ module _ (input : Input) (callers workers : ℕ) (warm : List WorkNote) (a b : S
   pub are_for : AllZip (IsFor b.code b.profile u) (roles_in callers workers) slots
   are_for = subst (λ (z : CodeTable × Profile). AllZip (IsFor z.0 z.1 u) (roles_in callers workers) slots)
       (λ i. (sym dealt_to.split.code_table i, sym dealt_to.split.profile_table i)) dealt_to.slots_are
+
+  -- where each role that was given to a slot has come to its end, these are all that stand in the slots
+  pub all_ended : (given_to after : List Slot) (len : ℕ) → slots ≡ given_to → len ≡ length slots
+      → ((w : View) (roles : List Role) → AllZip (IsFor b.code b.profile w) roles given_to
+        → AllZip (HasEnded input.script.calls b.code b.profile w) roles after)
+      → (take len (after ++ drop (length after) slots) ≡ after) × AllZip (HasEnded input.script.calls b.code b.profile u) (roles_in callers workers) after
+  all_ended given_to after len same long ends =
+      let roles = roles_in callers workers in
+      let ended = ends u roles (subst (AllZip (IsFor b.code b.profile u) roles) same are_for) in
+      (written_back (IsFor b.code b.profile u) (HasEnded input.script.calls b.code b.profile u) roles slots after len long are_for ended, ended)
 
   pub can_join : CanJoin b
   can_join =
@@ -369,8 +362,8 @@ module _ (input : Input) (callers workers : ℕ) (warm : List WorkNote) (a b : S
             (sym dealt_to.split.reads) p.in_parts;
       })
       (subst FromZeros (sym dealt_to.split.reads) zeros)
-      (ap (λ (x : View). x.joined) e ∙ no_items u.joined prepared.store.code_seat.all_joined)
-      (dealt_to.split.joined ∙ no_items (counts.joined_of a.profile_seat) prepared.store.profile_seat.all_joined)
+      (ap (λ (x : View). x.joined) e ∙ nil_from_length u.joined prepared.store.code_seat.all_joined)
+      (dealt_to.split.joined ∙ nil_from_length (counts.joined_of a.profile_seat) prepared.store.profile_seat.all_joined)
 
   pub roles_ran : (ended : List Slot) (answers : Answers) (c : Store)
       → AllZip (HasEnded input.script.calls b.code b.profile u) (roles_in callers workers) ended
@@ -383,8 +376,8 @@ module _ (input : Input) (callers workers : ℕ) (warm : List WorkNote) (a b : S
       (counts.joined_of b.profile_seat) =
       subst (λ (z : Program × ℕ). Joined z.0 z.1 input.script.setups warm [] v (counts.reads_of b.profile_seat) (counts.joined_of b.profile_seat))
       (λ i. (sym program i, sym size i)) joined_so_far in
-      let after = joins.joins input.script.calls u (roles_in callers workers) input.script.setups floor ends (published_seen Q u warm prepared.prepared.acted.notes)
-      before in
+      let after = joins.joins input.script.calls u (roles_in callers workers) input.script.setups floor ends
+          (published_seen Q u warm prepared.prepared.acted.notes) before in
       let all : HasJoined Q 1048576 input.script.setups warm (map (role_of input.script.calls floor) (roles_in callers workers)) answers c =
       subst (λ (z : Program × ℕ). HasJoined z.0 z.1 input.script.setups warm (map (role_of input.script.calls floor) (roles_in callers workers)) answers c)
       (λ i. (program i, size i)) after in

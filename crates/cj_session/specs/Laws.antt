@@ -6,16 +6,13 @@ use Rattle.cj_ir.specs.declared.language.FunId.{FunId}
 use Rattle.cj_calls.specs.declared.report.Look.{Look}
 use Rattle.cj_machine.specs.CodeMaps.{SoundCodes}
 use Rattle.cj_machine.specs.Marks.{Mark, Entered, Branched, FailedIn}
-use Rattle.cj_profile.specs.Seats as counts
-use Rattle.cj_profile.specs.declared.profile.ProfileSeat.{ProfileSeat}
-use Rattle.cj_publish.specs.declared.seats.CodeSeat.{CodeSeat}
 use Rattle.cj_publish.specs.declared.view.View.{View}
-use Rattle.cj_publish.specs.Seats.{IsSame}
 use Rattle.cj_publish.specs.Learns.{Learns, learns_nothing, learns_twice}
 use Rattle.cj_parts.specs.Parts.{MarkPart}
 use Rattle.cj_parts.specs.PartsLaws.{parts_append}
 use Rattle.cj_parts.specs.Looks.{looked, IsNotOlder}
 use Rattle.cj_parts.proofs.Finding.{finds_none, finds_twice}
+use Rattle.cj_parts.proofs.Seats.{code_same, code_same_on, profile_same, profile_same_on}
 use Rattle.cj_session.specs.declared.session.Session.{Session}
 use Rattle.cj_session.specs.Sessions.{codes_of, view_in, reads_in, entered_in, IsReady, Stays, Went}
 
@@ -62,19 +59,13 @@ went_on a b c ms ns h k = record {
 
 -- ---- what stays
 
-code_same_on : (s t u : CodeSeat) → IsSame s t → IsSame t u → IsSame s u
-code_same_on s t u g h = record { table = h.table ∙ g.table; first = h.first ∙ g.first; splits = h.splits ∙ g.splits; sole = h.sole ∙ g.sole }
-
-profile_same_on : (s t u : ProfileSeat) → counts.IsSame s t → counts.IsSame t u → counts.IsSame s u
-profile_same_on s t u g h = record { first = h.first ∙ g.first; sole = h.sole ∙ g.sole; splits = h.splits ∙ g.splits; joined = h.joined ∙ g.joined }
-
 pub stays_same : (s : Session) → Stays s s
 stays_same s = record {
   checked = refl;
   table = refl;
   profile = refl;
-  code_same = record { table = refl; first = refl; splits = refl; sole = refl };
-  profile_same = record { first = refl; sole = refl; splits = refl; joined = refl };
+  code_same = code_same s.code_seat;
+  profile_same = profile_same s.profile_seat;
   claim = refl;
   taken = refl;
   outcomes = refl;

@@ -2,11 +2,8 @@
 use Rattle.std.specs.Prelude.{Result, Ok, Err, OnErr}
 use Rattle.std.proofs.Common.{◌≡◌, ◌∙◌, refl, sym, subst, inl, inr, ℕ, true, false, List, []}
 use Rattle.cj_publish.specs.declared.view.View.{View}
-use Rattle.cj_publish.specs.declared.seats.CodeSeat.{CodeSeat}
-use Rattle.cj_publish.specs.Seats.{IsSame}
-use Rattle.cj_profile.specs.declared.profile.ProfileSeat.{ProfileSeat}
-use Rattle.cj_profile.specs.Seats as counts
 use Rattle.cj_publish.specs.Learns.{learns_nothing, learns_twice}
+use Rattle.cj_parts.proofs.Seats.{code_same, code_same_on, profile_same, profile_same_on}
 use Rattle.cj_ir.specs.declared.language.Program.{Program}
 use Rattle.cj_notes.specs.declared.notes.WorkNote.{WorkNote}
 use Rattle.cj_notes.specs.Works.{WorkedOne, WorkFailed}
@@ -15,28 +12,22 @@ use Rattle.cj_notes.proofs.Turning.{turns_none, turns_push, turns_done, last_not
 use Rattle.cj_worker.specs.declared.worker.Worker.{Worker}
 use Rattle.cj_worker.specs.Workers.{program_in, view_in, reads_in, Stays, TurnMade, TurnLost}
 
-code_twice : (a b c : CodeSeat) → IsSame a b → IsSame b c → IsSame a c
-code_twice a b c g h = record { table = h.table ∙ g.table; first = h.first ∙ g.first; splits = h.splits ∙ g.splits; sole = h.sole ∙ g.sole }
-
-counts_twice : (a b c : ProfileSeat) → counts.IsSame a b → counts.IsSame b c → counts.IsSame a c
-counts_twice a b c g h = record { first = h.first ∙ g.first; splits = h.splits ∙ g.splits; joined = h.joined ∙ g.joined; sole = h.sole ∙ g.sole }
-
 pub stays_same : (a : Worker) → Stays a a
 stays_same a = record {
   checked = refl;
   table = refl;
   profile = refl;
-  code_same = record { table = refl; first = refl; splits = refl; sole = refl };
-  profile_same = record { first = refl; splits = refl; joined = refl; sole = refl };
+  code_same = code_same a.code_seat;
+  profile_same = profile_same a.profile_seat;
 }
 
-pub stays_twice : (a b c : Worker) → Stays a b → Stays b c → Stays a c
-stays_twice a b c g h = record {
+pub stays_on : (a b c : Worker) → Stays a b → Stays b c → Stays a c
+stays_on a b c g h = record {
   checked = h.checked ∙ g.checked;
   table = h.table ∙ g.table;
   profile = h.profile ∙ g.profile;
-  code_same = code_twice a.code_seat b.code_seat c.code_seat g.code_same h.code_same;
-  profile_same = counts_twice a.profile_seat b.profile_seat c.profile_seat g.profile_same h.profile_same;
+  code_same = code_same_on a.code_seat b.code_seat c.code_seat g.code_same h.code_same;
+  profile_same = profile_same_on a.profile_seat b.profile_seat c.profile_seat g.profile_same h.profile_same;
 }
 
 pub on_nothing : (v : View) → WorksOn v v

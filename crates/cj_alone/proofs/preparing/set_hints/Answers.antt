@@ -1,5 +1,5 @@
 use Rattle.std.proofs.Common.{refl, sym, [], append-nil}
-use Rattle.cj_alone.proofs.Keeping.{profile_same, profile_same_on}
+use Rattle.cj_parts.proofs.Seats.{profile_same, profile_same_on}
 use Rattle.cj_alone.proofs.Warming.{hints_more}
 use Rattle.cj_alone.proofs.preparing.set_hints.Goals as goal
 

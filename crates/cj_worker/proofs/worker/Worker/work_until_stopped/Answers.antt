@@ -1,6 +1,6 @@
 use Rattle.std.proofs.Common.{Bool, subst}
 use Rattle.cj_worker.specs.Workers.{TurnMade}
-use Rattle.cj_worker.proofs.Turning.{stays_same, stays_twice, no_turn, one_turn, lost_turn, where_lost}
+use Rattle.cj_worker.proofs.Turning.{stays_same, stays_on, no_turn, one_turn, lost_turn, where_lost}
 use Rattle.cj_worker.proofs.worker.Worker.work_until_stopped.Goals as goal
 
 pub loop-init : goal.loop-init
@@ -17,7 +17,7 @@ loop-preserved g c =
     let made = subst (λ (b : Bool). TurnMade c.args.callers b c.loop.work c.turn.new.work c.loop.self c.turn.new.self) c.if-branch.false h.made in
     record {
       ready = h.ready;
-      stays = stays_twice c.args.self.now c.loop.self c.turn.new.self i.stays h.stays;
+      stays = stays_on c.args.self.now c.loop.self c.turn.new.self i.stays h.stays;
       turns = one_turn c.args.callers c.loop.work c.turn.new.work c.args.self.now c.loop.self c.turn.new.self i.stays i.turns made;
     }
 

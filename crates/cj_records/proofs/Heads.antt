@@ -1,0 +1,10 @@
+-- The first item of a list, and those behind it.
+use Rattle.std.proofs.Common.{List, [], ◌∷◌}
+
+unfoldable pub head_or : {A : Type 0} → A → List A → A
+head_or d [] = d
+head_or d (x ∷ xs) = x
+
+unfoldable pub tail_of : {A : Type 0} → List A → List A
+tail_of [] = []
+tail_of (x ∷ xs) = xs
