@@ -33,7 +33,8 @@ use Rattle.cj_session.specs.Sessions.{view_in, entered_in, trail_of, look_of, Lo
 -- ---- marks
 
 -- a mark that looks nothing up
-pub went_by : (a b : Session) (m : Mark) → entered_in (m ∷ []) ≡ [] → view_in b ≡ view_in a → AddsPart (MarkPart m) a.profile_seat b.profile_seat → Went a b (m ∷ [])
+pub went_by : (a b : Session) (m : Mark) → entered_in (m ∷ []) ≡ [] → view_in b ≡ view_in a
+    → AddsPart (MarkPart m) a.profile_seat b.profile_seat → Went a b (m ∷ [])
 went_by a b m none same h = record {
   learns = subst (Learns (view_in a)) (sym same) (learns_nothing (view_in a));
   looks = [];
@@ -47,7 +48,9 @@ went_by a b m none same h = record {
 }
 
 -- an entry looks one function up
-pub went_in : (a b : Session) (f : FunId) (args : List ℤ) (offset : ℕ) → Looks (view_in a) (view_in b) → LooksUp f offset (view_in a) (view_in b) → AddsPart (MarkPart (Entered f args)) a.profile_seat b.profile_seat → Went a b (Entered f args ∷ [])
+pub went_in : (a b : Session) (f : FunId) (args : List ℤ) (offset : ℕ) → Looks (view_in a) (view_in b)
+    → LooksUp f offset (view_in a) (view_in b) → AddsPart (MarkPart (Entered f args)) a.profile_seat b.profile_seat
+    → Went a b (Entered f args ∷ [])
 unfolding entered_in
 went_in a b f args offset looks look h = record {
   learns = looks.learns;

@@ -58,18 +58,21 @@ module _ (call : Begun) (a b : Session) where
           w.part,
           record {
             run = v_grows P (codes_of b) (known_codes (view_in b)) g call r report;
-            reads = subst (λ (ms : List Mark). InParts MarkPart ms w.part) (sym (marks_grow P (codes_of b) (known_codes (view_in b)) g call r report)) w.in_parts;
+            reads = subst (λ (ms : List Mark). InParts MarkPart ms w.part)
+                (sym (marks_grow P (codes_of b) (known_codes (view_in b)) g call r report)) w.in_parts;
           },
           w.reads,
         );
       }
 
-  session_stopped : IsReady b → Stays a b → Stopped a.checked.now (Went a b) (codes_of b) (trail_of a) (trail_of b) call → RanOut a.checked.now call (view_in a) (view_in b) (reads_in a) (reads_in b)
+  session_stopped : IsReady b → Stays a b → Stopped a.checked.now (Went a b) (codes_of b) (trail_of a) (trail_of b) call
+      → RanOut a.checked.now call (view_in a) (view_in b) (reads_in a) (reads_in b)
   session_stopped ready stays stopped =
       let P = a.checked.now in
       let known = known_codes (view_in b) in
       let g : Grows (codes_of b) known = known_grow b.checked.now (view_in b) b.versions.map.entries ready.known ready.code.reliable in
-      let once = stopped_once P (Went a b) known (trail_of a) (trail_of b) call (stopped_later P (Went a b) (codes_of b) known (trail_of a) (trail_of b) call g stopped) in
+      let later = stopped_later P (Went a b) (codes_of b) known (trail_of a) (trail_of b) call g stopped in
+      let once = stopped_once P (Went a b) known (trail_of a) (trail_of b) call later in
       let w : Went a b once.marks = once.told in
       let looks : w.looks ≡ once.more = went_looks a b once.marks once.more once.gained w in
       record {
@@ -84,28 +87,33 @@ module _ (call : Begun) (a b : Session) where
         alone = λ sole. subst (λ (l : List Look). FindsNothingNew l (view_in a) (view_in b)) looks (w.alone sole);
         reads = (
           w.part,
-          stopped_by P (λ ms. ms ≡ once.marks) (λ ms. InParts MarkPart ms w.part) known [] once.more call (λ ms e. subst (λ (xs : List Mark). InParts MarkPart xs w.part) (sym e) w.in_parts) once.rest,
+          stopped_by P (λ ms. ms ≡ once.marks) (λ ms. InParts MarkPart ms w.part) known [] once.more call
+              (λ ms e. subst (λ (xs : List Mark). InParts MarkPart xs w.part) (sym e) w.in_parts) once.rest,
           w.reads,
         );
       }
 
   -- what a run of the engine tells of its session, where memory ran out
-  pub ran_out_if : {A : Type 0} (result : Result A NoMemory) → IsReady b → Stays a b → OnErr result (Stopped a.checked.now (Went a b) (codes_of b) (trail_of a) (trail_of b) call)
+  pub ran_out_if : {A : Type 0} (result : Result A NoMemory) → IsReady b → Stays a b
+      → OnErr result (Stopped a.checked.now (Went a b) (codes_of b) (trail_of a) (trail_of b) call)
       → OnErr result (RanOut a.checked.now call (view_in a) (view_in b) (reads_in a) (reads_in b))
   ran_out_if (Ok x) ready stays stopped = tt
   ran_out_if (Err e) ready stays stopped = session_stopped ready stays stopped
 
   -- what a run of the engine tells of its session, where it has a report
   module _ {A : Type 0} (report : A → Report) where
-    pub ran_if : (result : Result A NoMemory) → IsReady b → Stays a b → IfOk result (λ x. trail_of b ≡ trail_of a ++ (report x).looks)
-        → IfOk result (λ x. version_report a.checked.now (codes_of b) (report x).looks call ≡ Some (report x)) → IfOk result (λ x. Stands a.checked.now call (report x))
+    pub ran_if : (result : Result A NoMemory) → IsReady b → Stays a b
+        → IfOk result (λ x. trail_of b ≡ trail_of a ++ (report x).looks)
+        → IfOk result (λ x. version_report a.checked.now (codes_of b) (report x).looks call ≡ Some (report x))
+        → IfOk result (λ x. Stands a.checked.now call (report x))
         → IfOk result (λ x. Went a b (run_marks a.checked.now (codes_of b) (report x).looks call call.limit))
         → IfOk result (λ x. Ran a.checked.now call (report x) (view_in a) (view_in b) (reads_in a) (reads_in b))
     ran_if (Ok x) ready stays trail told stands w = session_ran (report x) ready stays trail told stands w
     ran_if (Err e) ready stays trail told stands w = tt
 
   -- the memory that a run leaves is that of the run over all versions that the seat has read whole
-  pub memory_if : (result : Result engine.Ran NoMemory) → IsReady b → IfOk result (λ made. version_memory a.checked.now (codes_of b) made.report.looks call ≡ Some made.memory)
+  pub memory_if : (result : Result engine.Ran NoMemory) → IsReady b
+      → IfOk result (λ made. version_memory a.checked.now (codes_of b) made.report.looks call ≡ Some made.memory)
       → IfOk result (λ made. version_memory a.checked.now (known_codes (view_in b)) made.report.looks call ≡ Some made.memory)
   memory_if (Ok made) ready told =
       memory_kept a.checked.now call (codes_of b) (known_codes (view_in b)) made.report.looks made.memory

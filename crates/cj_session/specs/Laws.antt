@@ -41,14 +41,20 @@ went_nowhere s = record {
 
 -- what is no older than a later view is no older than this one
 older_before : (v w : View) → Learns v w → (look : Look) → IsNotOlder w look → IsNotOlder v look
-older_before v w learns look old x m e = let y = learns.seen x.cell x.offset (x, m, refl, refl) in subst (λ (n : ℕ). n ≤ look.offset) y.3 (old y.0 y.1 (y.2 ∙ e))
+older_before v w learns look old x m e =
+    let y = learns.seen x.cell x.offset (x, m, refl, refl) in
+    subst (λ (n : ℕ). n ≤ look.offset) y.3 (old y.0 y.1 (y.2 ∙ e))
 
 pub went_on : (a b c : Session) (ms ns : List Mark) → Went a b ms → Went b c ns → Went a c (ms ++ ns)
 went_on a b c ms ns h k = record {
   learns = learns_twice (view_in a) (view_in b) (view_in c) h.learns k.learns;
   looks = h.looks ++ k.looks;
   once = map-append (λ (look : Look). look.function) h.looks k.looks ∙ (λ i. h.once i ++ k.once i) ∙ sym (entered_append ms ns);
-  trail = k.trail ∙ (ap (λ l. l ++ map looked k.looks) h.trail ∙ append_assoc (view_in a).lookups (map looked h.looks) (map looked k.looks) ∙ ap (λ l. (view_in a).lookups ++ l) (sym (map-append looked h.looks k.looks)));
+  trail =
+      k.trail
+      ∙ (ap (λ l. l ++ map looked k.looks) h.trail
+          ∙ append_assoc (view_in a).lookups (map looked h.looks) (map looked k.looks)
+          ∙ ap (λ l. (view_in a).lookups ++ l) (sym (map-append looked h.looks k.looks)));
   floor = All-append (IsNotOlder (view_in a)) h.looks k.looks h.floor
       (All-weaker (IsNotOlder (view_in b)) (IsNotOlder (view_in a)) (older_before (view_in a) (view_in b) h.learns) k.looks k.floor);
   alone = λ sole. let first = h.alone sole in finds_twice h.looks k.looks (view_in a) (view_in b) (view_in c) first (k.alone first.sole);
