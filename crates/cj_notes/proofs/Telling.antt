@@ -88,7 +88,7 @@ module _ (P : Program) where
 
   pub warm_snapshot : (note : WorkNote) (j : Job) (rs : List Read) → job_of note ≡ Some j → WarmPart P note rs
       → (found : ℕ) × (rest : List Read) × All Keeps rest × Among (snapshot_loads j.function j.snapshot) rest
-        × (rs ≡ (raise (word.Taken j.function) found j.level ∷ []) ++ rest)
+      × (rs ≡ (raise (word.Taken j.function) found j.level ∷ []) ++ rest)
   warm_snapshot note j rs e h =
       let k : MarkedPart P j rs = subst (λ (x : Job). MarkedPart P x rs) (same_Some h.0 j (sym h.1 ∙ e)) h.2 in
       (k.0, k.1, k.2.keep, k.2.loads, k.3)

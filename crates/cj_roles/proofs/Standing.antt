@@ -316,7 +316,7 @@ module _ (input : Input) (callers workers : ℕ) (warm : List WorkNote) (a b : S
   -- where each role that was given to a slot has come to its end, these are all that stand in the slots
   pub all_ended : (given_to after : List Slot) (len : ℕ) → slots ≡ given_to → len ≡ length slots
       → ((w : View) (roles : List Role) → AllZip (IsFor b.code b.profile w) roles given_to
-        → AllZip (HasEnded input.script.calls b.code b.profile w) roles after)
+      → AllZip (HasEnded input.script.calls b.code b.profile w) roles after)
       → (take len (after ++ drop (length after) slots) ≡ after) × AllZip (HasEnded input.script.calls b.code b.profile u) (roles_in callers workers) after
   all_ended given_to after len same long ends =
       let roles = roles_in callers workers in
@@ -377,7 +377,7 @@ module _ (input : Input) (callers workers : ℕ) (warm : List WorkNote) (a b : S
       subst (λ (z : Program × ℕ). Joined z.0 z.1 input.script.setups warm [] v (counts.reads_of b.profile_seat) (counts.joined_of b.profile_seat))
       (λ i. (sym program i, sym size i)) joined_so_far in
       let after = joins.joins input.script.calls u (roles_in callers workers) input.script.setups floor ends
-          (published_seen Q u warm prepared.prepared.acted.notes) before in
+      (published_seen Q u warm prepared.prepared.acted.notes) before in
       let all : HasJoined Q 1048576 input.script.setups warm (map (role_of input.script.calls floor) (roles_in callers workers)) answers c =
       subst (λ (z : Program × ℕ). HasJoined z.0 z.1 input.script.setups warm (map (role_of input.script.calls floor) (roles_in callers workers)) answers c)
       (λ i. (program i, size i)) after in

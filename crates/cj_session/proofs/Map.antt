@@ -78,8 +78,8 @@ pub more_found : (es : List Entry) (f : FunId) (offset : ℕ) (body : Body) → 
 unfolding codes_in
 more_found es f offset body none =
     ap code_of
-        (added (is_key f offset) es ((f.0, offset), body) none
-            ∙ ap (λ b. if b then Some body else None) (own f offset))
+    (added (is_key f offset) es ((f.0, offset), body) none
+    ∙ ap (λ b. if b then Some body else None) (own f offset))
 
 pub more_known : (P : Program) (v : View) (es : List Entry) (f : FunId) (offset : ℕ) (body : Body) → EntriesKnown P v es
     → body.program ≡ P → IsWholeIn v ((f.0, offset), body) → Sound P [] f body.code

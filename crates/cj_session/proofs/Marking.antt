@@ -42,7 +42,7 @@ module _ (f : FunId) (args : List ℤ) (old mid : ProfileSeat) (count : ℕ)
       let ask : List Read = raise (word.Asked f) k.0 level ∷ [] in
       let part = h.3 in
       let reads : reads_of new ≡ reads_of old ++ (part.0 ++ ask) =
-          k.2 ∙ (ap (λ l. l ++ ask) part.2 ∙ append_assoc (reads_of old) part.0 ask) in
+      k.2 ∙ (ap (λ l. l ++ ask) part.2 ∙ append_assoc (reads_of old) part.0 ask) in
       (part.0 ++ ask, (h.0, part.0, ask, part.1, one_asked f level k.0 (level_at_calls h.0) is, refl), reads)
 
   pub entered_asks_one : (new : ProfileSeat) → count ≡ 8 → Asks f 1 mid new → AddsPart (MarkPart (Entered f args)) old new
@@ -65,7 +65,7 @@ module _ (f : FunId) (args : List ℤ) (old mid : ProfileSeat) (count : ℕ)
       let not_seven : h.0 ≢ 7 = after h.0 count 7 h.1 h.2 (omega arith) one in
       let not_last : h.0 ≢ 63 = after h.0 count 63 h.1 h.2 (omega arith) two in
       let none : level_at_calls h.0 ≡ None =
-          level_rest h.0 7 (if h.0 == 63 then Some 2 else None) 1 not_seven ∙ level_rest h.0 63 None 2 not_last in
+      level_rest h.0 7 (if h.0 == 63 then Some 2 else None) 1 not_seven ∙ level_rest h.0 63 None 2 not_last in
       let part = h.3 in
       (part.0, (h.0, part.0, [], part.1, none_asked f (level_at_calls h.0) none, sym (append-nil part.0)), part.2)
 
@@ -78,7 +78,7 @@ module _ (f : FunId) (old mid : ProfileSeat) (count : ℕ)
       let level : level_at_fails h.0 ≡ Some 3 = level_some h.0 2 None 3 (before h.0 count 2 h.1 h.2 (omega arith) is) in
       let counted : List Read = add_one (word.Failures f) h.0 ∷ [] in
       let reads : reads_of new ≡ reads_of old ++ (add_one (word.Failures f) h.0 ∷ ask) =
-          k.2 ∙ (ap (λ l. l ++ ask) h.3 ∙ append_assoc (reads_of old) counted ask) in
+      k.2 ∙ (ap (λ l. l ++ ask) h.3 ∙ append_assoc (reads_of old) counted ask) in
       (add_one (word.Failures f) h.0 ∷ ask, (h.0, ask, one_asked f 3 k.0 (level_at_fails h.0) level, refl), reads)
 
   pub failed_asks_none : count ≢ 3 → AddsPart (MarkPart (FailedIn f)) old mid

@@ -29,8 +29,8 @@ found_whole v f offset (e ∷ es) body all found =
     by true at here rest =
         let q = both f.0 e.0.0 offset e.0.1 at in
         let own : HasVersion v (main_of f) offset e.1.code =
-            subst (λ (k : ℕ × ℕ). HasVersion v (main_of (record { 0 = k.0 })) k.1 e.1.code)
-                (λ i. (sym q.0 i, sym q.1 i)) (All-head (IsWholeIn v) e es all) in
+        subst (λ (k : ℕ × ℕ). HasVersion v (main_of (record { 0 = k.0 })) k.1 e.1.code)
+        (λ i. (sym q.0 i, sym q.1 i)) (All-head (IsWholeIn v) e es all) in
         subst (λ (d : Body). HasVersion v (main_of f) offset d.code) (same_Some e.1 body here) own
     by false at later rest = rest later
 
@@ -43,6 +43,6 @@ known_grow P v es h ok f offset code found = by (lookup (is_key f offset) es) re
     by None at is = absurd cc
     by (Some body) at is =
         let whole : HasVersion v (main_of f) offset code =
-            subst (λ (c : Code). HasVersion v (main_of f) offset c) (same_Some body.code code is)
-                (found_whole v f offset es body h.whole at) in
+        subst (λ (c : Code). HasVersion v (main_of f) offset c) (same_Some body.code code is)
+        (found_whole v f offset es body h.whole at) in
         code_is v f offset code ok whole

@@ -53,8 +53,8 @@ went_on a b c ms ns h k = record {
   trail =
       k.trail
       ∙ (ap (λ l. l ++ map looked k.looks) h.trail
-          ∙ append_assoc (view_in a).lookups (map looked h.looks) (map looked k.looks)
-          ∙ ap (λ l. (view_in a).lookups ++ l) (sym (map-append looked h.looks k.looks)));
+      ∙ append_assoc (view_in a).lookups (map looked h.looks) (map looked k.looks)
+      ∙ ap (λ l. (view_in a).lookups ++ l) (sym (map-append looked h.looks k.looks)));
   floor = All-append (IsNotOlder (view_in a)) h.looks k.looks h.floor
       (All-weaker (IsNotOlder (view_in b)) (IsNotOlder (view_in a)) (older_before (view_in a) (view_in b) h.learns) k.looks k.floor);
   alone = λ sole. let first = h.alone sole in finds_twice h.looks k.looks (view_in a) (view_in b) (view_in c) first (k.alone first.sole);

@@ -37,8 +37,8 @@ join_all-requires-clause-slots g c =
     let p = c.deal.new.store.profile in
     let calls = c.args.input.now.script.calls in
     let ended = all_ended c.args.input.now c.args.callers c.args.workers c.args.warm c.args.store.now c.deal.new.store c.in_ok-slots.slots.items
-        c.requires.prepared c.in_ok-slots.ensures c.deref_mut.result.now c.run_in_threads.new.slots c.in_ok-slots.slots.len (search rules)
-        c.in_ok-slots.slots.ok.0 c.run_in_threads.ensures in
+    c.requires.prepared c.in_ok-slots.ensures c.deref_mut.result.now c.run_in_threads.new.slots c.in_ok-slots.slots.len (search rules)
+    c.in_ok-slots.slots.ok.0 c.run_in_threads.ensures in
     subst (All (SlotJoins t p)) (sym ended.0) (all_join calls t p v roles c.run_in_threads.new.slots ended.1)
 
 pub returns : goal.returns
@@ -49,7 +49,7 @@ returns g c =
     let p = c.deal.new.store.profile in
     let calls = c.args.input.now.script.calls in
     let ended = all_ended c.args.input.now c.args.callers c.args.workers c.args.warm c.args.store.now c.deal.new.store c.in_ok-slots.slots.items
-        c.requires.prepared c.in_ok-slots.ensures c.deref_mut.result.now c.run_in_threads.new.slots c.in_ok-slots.slots.len (search rules)
-        c.in_ok-slots.slots.ok.0 c.run_in_threads.ensures in
+    c.requires.prepared c.in_ok-slots.ensures c.deref_mut.result.now c.run_in_threads.new.slots c.in_ok-slots.slots.len (search rules)
+    c.in_ok-slots.slots.ok.0 c.run_in_threads.ensures in
     roles_ran c.args.input.now c.args.callers c.args.workers c.args.warm c.args.store.now c.deal.new.store c.in_ok-slots.slots.items c.requires.prepared
     c.in_ok-slots.ensures _ c.in_ok-answers.answers _ (subst (AllZip (HasEnded calls t p v) roles) (sym ended.0) ended.1) c.in_ok-answers.ensures

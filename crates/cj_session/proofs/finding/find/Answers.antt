@@ -17,21 +17,21 @@ pub returns-in_err-add-clause-looks : goal.returns-in_err-add-clause-looks
 returns-in_err-add-clause-looks c =
     let l = c.lookup-offset.ensures in
     looks_by_fetch _ _ _
-        (looks_by_lookup _ l.looked.0 _ _ _ _ l.looked.1 l.looked.2 l.learns l.same.sole l.no_more)
-        c.fetch.ensures.grows c.fetch.ensures.learns
+    (looks_by_lookup _ l.looked.0 _ _ _ _ l.looked.1 l.looked.2 l.learns l.same.sole l.no_more)
+    c.fetch.ensures.grows c.fetch.ensures.learns
 
 pub returns-in_ok-add-clause-looks : goal.returns-in_ok-add-clause-looks
 returns-in_ok-add-clause-looks c =
     let l = c.lookup-offset.ensures in
     looks_by_fetch _ _ _
-        (looks_by_lookup _ l.looked.0 _ _ _ _ l.looked.1 l.looked.2 l.learns l.same.sole l.no_more)
-        c.fetch.ensures.grows c.fetch.ensures.learns
+    (looks_by_lookup _ l.looked.0 _ _ _ _ l.looked.1 l.looked.2 l.learns l.same.sole l.no_more)
+    c.fetch.ensures.grows c.fetch.ensures.learns
 
 pub returns-in_err-version-clause-known : goal.returns-in_err-version-clause-known
 returns-in_err-version-clause-known c =
     let learns =
-        learns_twice (view_of c.args.seat.now) (view_of c.lookup-offset.new.seat) (view_of c.fetch.new.seat)
-            c.lookup-offset.ensures.learns c.fetch.ensures.learns in
+    learns_twice (view_of c.args.seat.now) (view_of c.lookup-offset.new.seat) (view_of c.fetch.new.seat)
+    c.lookup-offset.ensures.learns c.fetch.ensures.learns in
     known_later _ _ _ c.args.versions.now.map.entries learns c.requires.known
 
 pub returns-else-offset-ne0-clause-known : goal.returns-else-offset-ne0-clause-known
@@ -40,15 +40,15 @@ returns-else-offset-ne0-clause-known c = known_later _ _ _ c.args.versions.now.m
 pub returns-in_err-add-clause-known : goal.returns-in_err-add-clause-known
 returns-in_err-add-clause-known c =
     let learns =
-        learns_twice (view_of c.args.seat.now) (view_of c.lookup-offset.new.seat) (view_of c.fetch.new.seat)
-            c.lookup-offset.ensures.learns c.fetch.ensures.learns in
+    learns_twice (view_of c.args.seat.now) (view_of c.lookup-offset.new.seat) (view_of c.fetch.new.seat)
+    c.lookup-offset.ensures.learns c.fetch.ensures.learns in
     subst (λ (es : List Entry). EntriesKnown c.args.checked.now (view_of c.fetch.new.seat) es) (sym c.in_err-add.ensures.err)
-        (known_later _ _ _ c.args.versions.now.map.entries learns c.requires.known)
+    (known_later _ _ _ c.args.versions.now.map.entries learns c.requires.known)
 
 pub returns-in_ok-add-clause-grows : goal.returns-in_ok-add-clause-grows
 returns-in_ok-add-clause-grows c =
     subst (λ (es : List Entry). Grows (codes_in c.args.versions.now.map.entries) (codes_in es)) (sym c.in_ok-add.ensures.ok)
-        (more_grow c.args.versions.now.map.entries _)
+    (more_grow c.args.versions.now.map.entries _)
 
 pub returns-in_ok-add-clause-found : goal.returns-in_ok-add-clause-found
 returns-in_ok-add-clause-found c = λ some.
@@ -64,13 +64,13 @@ returns-in_ok-add-clause-known c =
     let version : Body = c.in_ok-version.version in
     let told = c.in_ok-version.ensures.program in
     let learns =
-        learns_twice (view_of c.args.seat.now) (view_of c.lookup-offset.new.seat) (view_of c.fetch.new.seat)
-            c.lookup-offset.ensures.learns c.fetch.ensures.learns in
+    learns_twice (view_of c.args.seat.now) (view_of c.lookup-offset.new.seat) (view_of c.fetch.new.seat)
+    c.lookup-offset.ensures.learns c.fetch.ensures.learns in
     let known = known_later P _ _ es learns c.requires.known in
     let sound : Sound P [] c.args.f version.code =
-        subst (λ (f : FunId). Sound P [] f version.code) told.2
-            (subst (λ facts. Sound P facts version.code.function version.code) told.1
-                (subst (λ (Q : Program). Sound Q version.context version.code.function version.code) told.0
-                    c.code-code.ensures.sound)) in
+    subst (λ (f : FunId). Sound P [] f version.code) told.2
+    (subst (λ facts. Sound P facts version.code.function version.code) told.1
+    (subst (λ (Q : Program). Sound Q version.context version.code.function version.code) told.0
+    c.code-code.ensures.sound)) in
     subst (λ (now : List Entry). EntriesKnown P (view_of c.fetch.new.seat) now) (sym c.in_ok-add.ensures.ok)
     (more_known P _ es c.args.f c.lookup-offset.result version known told.0 c.in_ok-version.ensures.version sound)

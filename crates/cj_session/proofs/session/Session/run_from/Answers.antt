@@ -7,7 +7,7 @@ pub returns-clause-ran : goal.returns-clause-ran
 unfolding begun_with
 returns-clause-ran c =
     ran_if _ _ _ (λ (made : Ran). made.report) c.run_from.result c.run_from.ensures.keeps.ready c.run_from.ensures.keeps.stays
-        c.run_from.ensures.looked c.run_from.ensures.report c.run_from.ensures.headline c.run_from.ensures.went
+    c.run_from.ensures.looked c.run_from.ensures.report c.run_from.ensures.headline c.run_from.ensures.went
 
 pub returns-clause-memory : goal.returns-clause-memory
 returns-clause-memory c =

@@ -14,4 +14,4 @@ returns-clause-code c = ap code_of (sym c.in-Some.ensures.value)
 pub returns-clause-program : goal.returns-clause-program
 returns-clause-program c =
     found_program c.args.self.now.checked.now _ c.args.self.now.versions.map.entries c.in-Some.version.now
-        c.requires.ready.known.programs (sym c.in-Some.ensures.value)
+    c.requires.ready.known.programs (sym c.in-Some.ensures.value)

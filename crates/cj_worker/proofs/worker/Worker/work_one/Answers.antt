@@ -36,5 +36,5 @@ returns-clause-failed c =
     let found = c.take_job-found.result in
     let takes = subst (λ (Q : Program). Takes Q found h.0) c.requires.ready.counted h.1 in
     on_err_weaker c.answer.result
-        (λ (failed : AnswerFailed found v v' mid new). failed_by P v v' c.requires.ready.free (reads_in w) mid new h.0 h.2 found takes failed)
+    (λ (failed : AnswerFailed found v v' mid new). failed_by P v v' c.requires.ready.free (reads_in w) mid new h.0 h.2 found takes failed)
     c.answer.ensures.failed
