@@ -21,7 +21,7 @@ use Rattle.cj_draft.specs.Arrives.{place_at}
 use Rattle.cj_draft.specs.Sound.{Sound, guard_next, RowWithin}
 use Rattle.cj_ir.proofs.ListReads.{at_index}
 use Rattle.cj_draft.proofs.Lists.{all_from, fine_of}
-use Rattle.cj_draft.proofs.SamePlaces.{KeepsPlaces}
+use Rattle.cj_draft.proofs.SamePlaces.{KeepsPlaces, assume_at}
 use Rattle.cj_draft.proofs.Immediate as direct
 use Rattle.cj_draft.proofs.MoreGuards as more
 use Rattle.cj_draft.specs.Edges.{fresh_label}
@@ -43,7 +43,7 @@ use Rattle.cj_assume.proofs.AssumeRows.{row_same, HasGuardsAfter, rows_after}
 module _ (P : Program) (context : List Fact) (f : FunId) (code : Code) (l : Label) (count : ℕ) (gs : List Guard)
     (has : HasAssume code l count) (registers : All (IsGuardWithin code.regs) gs) (few : count + length gs ≤ 8) (sound : Sound P context f code) where
   grown : Place
-  grown = more.with_guards (has.guards ++ gs) has.number has.target has.next has.place
+  grown = assume_at (has.guards ++ gs) has.number has.target has.next has.place
 
   code1 : Code
   code1 = with_places code (slice_set code.places l.0 grown)
@@ -70,7 +70,7 @@ module _ (P : Program) (context : List Fact) (f : FunId) (code : Code) (l : Labe
       (label_cases x l)
 
   kept1 : KeepsPlaces code code1
-  unfolding grown more.with_guards
+  unfolding grown assume_at
   kept1 x p at = ⊎_elim
       (λ e.
       let is : has.place ≡ p = same_Some has.place p (sym has.at ∙ ap (place_at code) (sym e) ∙ at) in
@@ -91,7 +91,7 @@ module _ (P : Program) (context : List Fact) (f : FunId) (code : Code) (l : Labe
   }
 
   grown_fine : IsPlaceFine P code.regs (length code1.places) grown
-  unfolding grown more.with_guards
+  unfolding grown assume_at
   grown_fine =
       let fine = fine_of P code sound.named l has.place has.at in
       let old = subst (IsVInstrFine P code.regs (length code.places)) has.instr fine.instr in
@@ -125,7 +125,7 @@ module _ (P : Program) (context : List Fact) (f : FunId) (code : Code) (l : Labe
       label n = record { 0 = n }
 
   guards1 : (x : Label) → guard_at code1 x ≡ guard_at code x
-  unfolding guard_at guard_in guard_next grown more.with_guards
+  unfolding guard_at guard_in guard_next grown assume_at
   guards1 x = ⊎_elim
       (λ e. ap (guard_at code1) e ∙ guard_place code1 l grown here1
       ∙ sym (ap (guard_at code) e ∙ guard_place code l has.place has.at ∙ ap guard_next has.instr))
@@ -136,7 +136,7 @@ module _ (P : Program) (context : List Fact) (f : FunId) (code : Code) (l : Labe
   rows1 x = row_same code code1 guards1 8 x (sound.rows x)
 
   is_appended : appended code l gs ≡ code1
-  unfolding appended appended_in code1 with_places with_instr with_more grown more.with_guards
+  unfolding appended appended_in code1 with_places with_instr with_more grown assume_at
   is_appended = ap (appended_in code l gs) has.at
       ∙ ap (λ (i : VInstr). with_places code (slice_set code.places l.0 (with_instr (with_more gs i) has.place))) has.instr
 
@@ -155,7 +155,7 @@ module _ (P : Program) (context : List Fact) (f : FunId) (code : Code) (a : Labe
   led = direct.anchor_to (fresh_label code) can.number can.target can.place
 
   fresh : Place
-  fresh = direct.assume_after gs can.number can.target can.next can.place
+  fresh = assume_at gs can.number can.target can.next can.place
 
   code2 : Code
   code2 = with_places code (slice_set code.places a.0 led ++ fresh ∷ [])
@@ -238,7 +238,7 @@ module _ (P : Program) (context : List Fact) (f : FunId) (code : Code) (a : Labe
       }
 
   fresh_fine : IsPlaceFine P code.regs (length code2.places) fresh
-  unfolding fresh direct.assume_after
+  unfolding fresh assume_at
   fresh_fine =
       let fine = fine_of P code sound.named a can.place can.at in
       let within : can.next.0 < length code.places = anchor_fine.2 in
@@ -297,7 +297,7 @@ module _ (P : Program) (context : List Fact) (f : FunId) (code : Code) (a : Labe
   guard_of_led = guard_place code2 a led at_a
 
   guard_of_fresh : guard_at code2 s ≡ Some can.next
-  unfolding fresh direct.assume_after guard_next
+  unfolding fresh assume_at guard_next
   guard_of_fresh = guard_place code2 s fresh at_s
 
   guard_of_anchor : guard_at code a ≡ Some can.next
@@ -323,7 +323,7 @@ module _ (P : Program) (context : List Fact) (f : FunId) (code : Code) (a : Labe
   rows2 = rows_after code code2 a s can.next guards_after_a sound.rows room.row
 
   is_inserted : inserted code a gs ≡ code2
-  unfolding inserted inserted_in code2 with_places with_instr anchor_to assume_of led fresh direct.anchor_to direct.assume_after
+  unfolding inserted inserted_in code2 with_places with_instr anchor_to assume_of led fresh direct.anchor_to assume_at
   is_inserted = ap (inserted_in code a gs) can.at
       ∙ ap (λ (i : VInstr). with_places code (slice_set code.places a.0 (with_instr (anchor_to (fresh_label code) i) can.place)
       ++ with_instr (assume_of gs i) can.place ∷ [])) can.instr

@@ -6,7 +6,7 @@ use Rattle.cj_draft.specs.declared.instructions.Pair.{Pair}
 use Rattle.cj_const.specs.Knowledge.{Knowledge, with_known, known, known_value}
 use Rattle.cj_const.specs.Flow.{after_move, with_guard, with_guards}
 use Rattle.cj_const.specs.Search.{arrived}
-use Rattle.cj_const.proofs.Rows.{drop-at, drop-end, known_after}
+use Rattle.cj_const.proofs.Rows.{drop-at, known_after}
 
 pub move-more : (row items made new : List (Option ℤ)) (pairs : List Pair) (i : ℕ) (d : Pair) (now : Option ℤ) (all : Knowledge) → i < length pairs →
     All (λ pair. pair.dest.0 < length row) pairs → length made ≡ length row → new ≡ slice_set made (get_or pairs i d).dest.0 now →
@@ -25,7 +25,7 @@ move-more row items made new pairs i d now all h within width set value same lef
 
 pub move-all : (k : Knowledge) (pairs : List Pair) (i : ℕ) (now all : Knowledge) → length pairs ≤ i → after_move k (drop i pairs) now ≡ all → now ≡ all
 unfolding after_move
-move-all k pairs i now all h left = sym (ap (λ (ps : List Pair). after_move k ps now) (drop-end pairs i h)) ∙ left
+move-all k pairs i now all h left = sym (ap (λ (ps : List Pair). after_move k ps now) (drop_all i pairs h)) ∙ left
 
 pub guards-none : (guards : List Guard) → with_guards guards None ≡ None
 unfolding with_guards
@@ -52,4 +52,4 @@ guard-fails guards i d k row holds all h e is left =
 
 pub guards-all : (guards : List Guard) (i : ℕ) (known all : Option Knowledge) → length guards ≤ i → with_guards (drop i guards) known ≡ all → known ≡ all
 unfolding with_guards
-guards-all guards i known all h left = sym (ap (λ (gs : List Guard). with_guards gs known) (drop-end guards i h)) ∙ left
+guards-all guards i known all h left = sym (ap (λ (gs : List Guard). with_guards gs known) (drop_all i guards h)) ∙ left

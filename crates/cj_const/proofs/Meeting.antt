@@ -6,10 +6,10 @@ use Rattle.std.proofs.lemmas.Option.{none-some, same_Some}
 use Rattle.std.proofs.lemmas.Bool.{cases_Bool, and_parts, and_cases, cond-true, cond-false}
 use Rattle.std.proofs.lemmas.Bool.Decides.{Decides-int_eq}
 use Rattle.std.proofs.lemmas.List.Sums.{sum_by-cons}
-use Rattle.std.proofs.lemmas.List.{append-nil}
+use Rattle.std.proofs.lemmas.List.{append-nil, drop_all}
 use Rattle.cj_const.specs.Knowledge.{known}
 use Rattle.cj_const.specs.Search.{TellsNoMore, agrees, is_within, kept_slot, met, is_known}
-use Rattle.cj_const.proofs.Rows.{drop-at, drop-end}
+use Rattle.cj_const.proofs.Rows.{drop-at}
 
 -- ---- the loops
 
@@ -31,7 +31,7 @@ within-fails row others i d e same all h count is no_ left =
 
 pub within-all : (row others : List (Option ℤ)) (i : ℕ) (all : Bool) → length row ≤ i → is_within (drop i row) (drop i others) ≡ all → true ≡ all
 unfolding is_within
-within-all row others i all h left = sym (ap (λ (xs : List (Option ℤ)). is_within xs (drop i others)) (drop-end row i h)) ∙ left
+within-all row others i all h left = sym (ap (λ (xs : List (Option ℤ)). is_within xs (drop i others)) (drop_all i row h)) ∙ left
 
 pub met-more : (row others : List (Option ℤ)) (i : ℕ) (d e x : Option ℤ) (made new all : List (Option ℤ)) → i < length row → length others ≡ length row →
     x ≡ kept_slot (get_or row i d) (get_or others i e) → new ≡ made ++ x ∷ [] → made ++ met (drop i row) (drop i others) ≡ all →
@@ -48,17 +48,17 @@ met-more row others i d e x made new all h count is pushed left =
 pub met-all : (row others : List (Option ℤ)) (i : ℕ) (made all : List (Option ℤ)) → length row ≤ i → made ++ met (drop i row) (drop i others) ≡ all → made ≡ all
 unfolding met
 met-all row others i made all h left =
-    sym (append-nil made) ∙ sym (ap (λ (xs : List (Option ℤ)). made ++ met xs (drop i others)) (drop-end row i h)) ∙ left
+    sym (append-nil made) ∙ sym (ap (λ (xs : List (Option ℤ)). made ++ met xs (drop i others)) (drop_all i row h)) ∙ left
 
 -- ---- slots
 
-slot-agrees : (s o : Option ℤ) (v : ℤ) → agrees s o ≡ true → s ≡ Some v → o ≡ Some v
+pub slot-agrees : (s o : Option ℤ) (v : ℤ) → agrees s o ≡ true → s ≡ Some v → o ≡ Some v
 unfolding agrees
 slot-agrees None o v yes_ e = absurd (none-some v e)
 slot-agrees (Some w) None v yes_ e = absurd (cc)
 slot-agrees (Some w) (Some u) v yes_ e = ap Some (sym ((Decides-int_eq w u).0 yes_)) ∙ e
 
-same-agrees : (s o : Option ℤ) (v : ℤ) → s ≡ Some v → o ≡ Some v → agrees s o ≡ true
+pub same-agrees : (s o : Option ℤ) (v : ℤ) → s ≡ Some v → o ≡ Some v → agrees s o ≡ true
 unfolding agrees
 same-agrees None o v e e' = refl
 same-agrees (Some w) None v e e' = absurd (none-some v e')

@@ -6,7 +6,7 @@ use Rattle.std.proofs.Math.Path.{fun_ext}
 use Rattle.std.proofs.lemmas.Bool.{cases_eq, cases_lt, eq-eqb, ne_eqb, and_parts, cond-true, cond-false}
 use Rattle.std.proofs.Math.ListN.{get_or-append}
 use Rattle.std.proofs.Math.Seq.{get_or-append_seam}
-use Rattle.std.proofs.lemmas.List.{get_or-set_same, get_or-set_other, get_or_past}
+use Rattle.std.proofs.lemmas.List.{drop_all, get_or-set_same, get_or-set_other, get_or_past}
 use Rattle.std.proofs.lemmas.List.Elements.{All-head, All-tail}
 use Rattle.cj_ir.specs.Values.{IsOperandWithin, IsExprWithin}
 use Rattle.cj_ir.specs.declared.language.Operand.{Operand}
@@ -20,12 +20,6 @@ use Rattle.cj_const.specs.Knowledge.{Knowledge, told_by, with_known, is_constant
 
 pub drop-at : {X : Type 0} (xs : List X) (i : ℕ) (d : X) → i < length xs → drop i xs ≡ get_or xs i d ∷ drop (i + 1) xs
 drop-at xs i d h = rw (add-one, drop-cons xs i d)
-
-pub drop-end : {X : Type 0} (xs : List X) (i : ℕ) → length xs ≤ i → drop i xs ≡ []
-drop-end [] zero h = refl
-drop-end [] (suc i) h = refl
-drop-end (x ∷ xs) zero h = absurd (omega arith)
-drop-end (x ∷ xs) (suc i) h = drop-end xs i (omega arith)
 
 pub told-first : (x : Fact) (facts : List Fact) (r : ℕ) → x.reg.0 ≡ r → told_by (x ∷ facts) r ≡ Some x.value
 unfolding told_by
@@ -47,7 +41,16 @@ told-past facts i d r h e same =
 
 pub told-none : (facts : List Fact) (i r : ℕ) → length facts ≤ i → told_by (drop i facts) r ≡ told_by facts r → told_by facts r ≡ None
 unfolding told_by
-told-none facts i r h same = sym same ∙ ap (λ (xs : List Fact). told_by xs r) (drop-end facts i h)
+told-none facts i r h same = sym same ∙ ap (λ (xs : List Fact). told_by xs r) (drop_all i facts h)
+
+-- ---- a value that is known is of a register of the row
+
+pub known-inside : (row : List (Option ℤ)) (r : ℕ) (v : ℤ) → known row r ≡ Some v → r < length row
+unfolding known
+known-inside row r v e = ⊎_elim
+    (λ below. below)
+    (λ past. absurd (none-some v (sym (get_or_past row r None past) ∙ e)))
+    (cases_lt r (length row))
 
 -- ---- writes
 

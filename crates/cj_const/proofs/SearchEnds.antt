@@ -27,6 +27,7 @@ use Rattle.cj_const.specs.Folding.{facts_below}
 use Rattle.cj_const.specs.Search.{TellsNoMore, SaysLess, facts_in, reached_at, HasWidth, EdgeHolds, IsSearch, LetsWait}
 use Rattle.cj_const.proofs.Told.{fact, told-contains, fine-told, below-in, in-below, below-fine, fine-one}
 use Rattle.cj_const.proofs.Monotone.{leaves-less}
+use Rattle.cj_const.proofs.Rows.{known-inside}
 use Rattle.cj_const.proofs.SearchSteps.{less-trans, reached-same, reached-other}
 
 abbrev Row : Type 0
@@ -97,16 +98,9 @@ module _ (context : List Fact) (code : Code) (rows : Rows) (w : Waiting) (row : 
 
 -- ---- the end
 
-known-within : (row : Row) (r : ℕ) (v : ℤ) → known row r ≡ Some v → r < length row
-unfolding known
-known-within row r v e = ⊎_elim
-    (λ below. below)
-    (λ past. absurd (none-some v (sym (get_or_past row r None past) ∙ e)))
-    (cases_lt r (length row))
-
 in-row : (n : ℕ) (row : Row) (r : ℕ) (v : ℤ) → length row ≡ n → known row r ≡ Some v → Contains (facts_below (known row) n) (fact r v)
 in-row n row r v width e =
-    let low = known-within row r v e in
+    let low = known-inside row r v e in
     in-below (known row) n r v (omega arith) e
 
 row-fine : (n : ℕ) (o : Option Row) → HasFineFacts n (facts_in n o)

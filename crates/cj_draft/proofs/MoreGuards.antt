@@ -19,7 +19,7 @@ use Rattle.cj_draft.specs.WellNamed.{WellNamed}
 use Rattle.cj_draft.specs.Arrives.{place_at, Allows, Admits}
 use Rattle.cj_draft.specs.Sound.{IsSilentIn, Resumes, StepsGuarded, SoundEffect, RowWithin, Sound}
 use Rattle.cj_draft.proofs.Ways.{relabel-same, Grown, grown-same, effect_way, guarded_way, resumes_way}
-use Rattle.cj_draft.proofs.SamePlaces.{KeepsPlaces, same_way, same_ways, same_entry_facts}
+use Rattle.cj_draft.proofs.SamePlaces.{KeepsPlaces, assume_at, admits_same, same_way, same_ways, same_entry_facts}
 
 -- where more guards hold, the first of them do
 pub guards_hold-append : (regs : List ℤ) (guards more : List Guard) → guards_hold regs (guards ++ more) ≡ true → guards_hold regs guards ≡ true
@@ -29,10 +29,6 @@ guards_hold-append regs (g ∷ guards) more h =
     let parts = and_parts (guard_holds regs g) (guards_hold regs (guards ++ more)) h in
     both_true parts.0 (guards_hold-append regs guards more parts.1)
 
--- the Assume with further guards
-unfoldable pub with_guards : List Guard → ℕ → Point → Label → Place → Place
-with_guards guards number target next p = record p { instr = Assume guards number target next }
-
 -- code' is code with further guards of the Assume at `s`
 pub record HasMoreGuards (code code' : Code) (s : Label) (place : Place) (guards more : List Guard) (number : ℕ) (target : Point) (next : Label) : Type 0 where
   pub function : code'.function ≡ code.function
@@ -41,22 +37,19 @@ pub record HasMoreGuards (code code' : Code) (s : Label) (place : Place) (guards
   pub at : place_at code s ≡ Some place
   pub instr : place.instr ≡ Assume guards number target next
   pub kept : KeepsPlaces code code'
-  pub back : (x : Label) (p' : Place) → place_at code' x ≡ Some p' → (place_at code x ≡ Some p') ⊎ (with_guards (guards ++ more) number target next place ≡ p')
+  pub back : (x : Label) (p' : Place) → place_at code' x ≡ Some p' → (place_at code x ≡ Some p') ⊎ (assume_at (guards ++ more) number target next place ≡ p')
 
 module _ (P : Program) (context : List Fact) (f : FunId) (code code' : Code) (s : Label) (place : Place) (guards more : List Guard) (number : ℕ)
     (target : Point) (next : Label) (sound : Sound P context f code) (has : HasMoreGuards code code' s place guards more number target next) where
-  admits_old : (p : Place) (regs : List ℤ) → Admits code' p regs → Admits code p regs
-  admits_old p regs h = record { count = h.count ∙ sym has.regs; facts = h.facts }
-
   old_guard : (regs m : List ℤ) → Admits code place regs → StepsGuarded P code place regs (guards_hold regs guards) number target next
   unfolding version_effect
   old_guard regs m fit = subst (λ i. SoundEffect P code place regs m (version_effect i regs m)) has.instr (sound.places s place has.at regs m fit)
 
   guarded_sound : (regs m : List ℤ) → Admits code place regs →
-      let p' : Place = with_guards (guards ++ more) number target next place in SoundEffect P code' p' regs m (version_effect p'.instr regs m)
-  unfolding version_effect with_guards IsSilentIn
+      let p' : Place = assume_at (guards ++ more) number target next place in SoundEffect P code' p' regs m (version_effect p'.instr regs m)
+  unfolding version_effect assume_at IsSilentIn
   guarded_sound regs m fit =
-      let p' : Place = with_guards (guards ++ more) number target next place in
+      let p' : Place = assume_at (guards ++ more) number target next place in
       let g = old_guard regs m fit in
       let grown : Grown place p' = record { point = refl; backs = λ q c. c; silent = λ i. absurd (not_silent (subst IsSilentIn has.instr i)) } in
       guarded_way P code code' place p' regs (guards_hold regs (guards ++ more)) number target next next grown
@@ -67,7 +60,7 @@ module _ (P : Program) (context : List Fact) (f : FunId) (code code' : Code) (s 
       not_silent i = i
 
   pub more_guards_sound : WellNamed P code' → ((x : Label) → RowWithin code' 8 x) → Sound P context f code'
-  unfolding with_guards
+  unfolding assume_at
   more_guards_sound named rows = record {
     function = has.function ∙ sound.function;
     named = named;
@@ -83,7 +76,7 @@ module _ (P : Program) (context : List Fact) (f : FunId) (code code' : Code) (s 
         let e = version_effect p'.instr regs m in
         subst (SoundEffect P code' p' regs m) (relabel-same e)
         (effect_way P code code' (λ z. z) p' p' regs m e (grown-same p') (same_ways P code code' has.regs has.kept p' regs e)
-        (sound.places x p' old regs m (admits_old p' regs fit))))
+        (sound.places x p' old regs m (admits_same code code' p' regs has.regs fit))))
         (λ e.
         let fit0 : Admits code place regs = record { count = fit.count ∙ sym has.regs; facts = subst (λ (z : Place). Allows' z regs) (sym e) fit.facts } in
         subst (λ z. SoundEffect P code' z regs m (version_effect z.instr regs m)) e (guarded_sound regs m fit0))

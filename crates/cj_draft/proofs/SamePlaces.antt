@@ -5,16 +5,19 @@ use Rattle.std.specs.Prelude.{ℤ, slice_set}
 use Rattle.std.specs.List.{Contains}
 use Rattle.cj_ir.specs.declared.language.Label.{Label}
 use Rattle.cj_ir.specs.declared.language.Program.{Program}
+use Rattle.cj_ir.specs.declared.language.Guard.{Guard}
 use Rattle.cj_base.specs.Machine.{Stack, On, Calls, Returns, Faults}
 use Rattle.cj_base.specs.Same.{Same}
 use Rattle.cj_draft.specs.declared.facts.Fact.{Fact}
+use Rattle.cj_draft.specs.declared.points.Point.{Point}
+use Rattle.cj_draft.specs.declared.instructions.VInstr.TheVariants.{Assume}
 use Rattle.cj_draft.specs.declared.code.Back.{Back}
 use Rattle.cj_draft.specs.declared.code.Place.{Place}
 use Rattle.cj_draft.specs.declared.code.Code.{Code}
 use Rattle.cj_draft.specs.Points.{frames_of}
 use Rattle.cj_draft.specs.Effects.{VersionEffect, Plain, Guarded}
 use Rattle.cj_draft.specs.WellNamed.{WellNamed}
-use Rattle.cj_draft.specs.Arrives.{place_at, Allows, Arrives}
+use Rattle.cj_draft.specs.Arrives.{place_at, Allows, Admits, Arrives}
 use Rattle.cj_draft.specs.Sound.{IsCarried, AreAmong}
 use Rattle.cj_ir.proofs.ListReads.{at_index}
 use Rattle.cj_draft.proofs.Ways.{Way, WaysOn}
@@ -24,6 +27,14 @@ abbrev pub KeepsPlaces : Code → Code → Type 0
 KeepsPlaces code code' =
     (x : Label) (p : Place) → place_at code x ≡ Some p → (p' : Place) × (place_at code' x ≡ Some p') × (p.point ≡ p'.point) × (p.facts ≡ p'.facts)
     × (p.backs ≡ p'.backs)
+
+-- this place with an Assume of these guards
+unfoldable pub assume_at : List Guard → ℕ → Point → Label → Place → Place
+assume_at guards number target next p = record p { instr = Assume guards number target next }
+
+-- what a code with the same number of registers admits at a place
+pub admits_same : (code code' : Code) (p : Place) (regs : List ℤ) → code.regs ≡ code'.regs → Admits code' p regs → Admits code p regs
+admits_same code code' p regs same h = record { count = h.count ∙ sym same; facts = h.facts }
 
 module _ (P : Program) (code code' : Code) (same_regs : code.regs ≡ code'.regs) (kept : KeepsPlaces code code') where
   pub same_way : (Extra : Back → Type 0) (regs : List ℤ) (st : Stack) (x : Label) (r : Arrives P code x regs st) → Way P code code' Extra regs st r.place x

@@ -1,6 +1,7 @@
 -- Turns of a run, one after the other, over what the watch has.
 use Rattle.std.proofs.Common.{◌≡◌, ◌≢◌, ◌∙◌, refl, sym, ap, subst, arith, ℕ, zero, suc, ◌+◌, ◌-◌, ◌<◌, ◌≤◌, List, [], ◌∷◌, ◌++◌, append-nil, append_assoc}
 use Rattle.std.proofs.Common.{length, length-append, Bool, Option, None, inl, inr, ◌⊎◌, ⊎_elim}
+use Rattle.std.proofs.lemmas.List.{nil_from_length}
 use Rattle.std.specs.Prelude.{ℤ, slice_get, Result, Ok, Err, OnErr}
 use Rattle.cj_ir.specs.WellFormed.{IsWellFormed, Takes}
 use Rattle.cj_ir.specs.declared.language.FunId.{FunId}
@@ -358,10 +359,6 @@ pub onward_one : (P : Program) (went : List Mark → Type 0) (codes : Codes) (tr
 unfolding turns_from marks_from one_turn_more next_marks
 onward_one P went codes trail s answer t o = record { made = o.made; told = o.told }
 
-none_of : {A : Type 0} (xs : List A) → length xs ≡ 0 → xs ≡ []
-none_of [] none = refl
-none_of (x ∷ xs) none = absurd (omega arith)
-
 -- memory ran out in the first turn
 pub record HaltedAtOnce (P : Program) (went : List Mark → Type 0) (codes : Codes) (looks now before after : List Look) (s t : State) : Type 0 where
   pub same : t ≡ s
@@ -379,7 +376,7 @@ at_once P went codes looks more now before after turns s t first used used_then 
     let same : s ≡ t = cc in
     let counts : length now ≡ length looks = sym used_then ∙ ap (λ (x : State). x.entries) (sym same) ∙ used in
     let size = ap length longer ∙ length-append looks more in
-    let no_more : more ≡ [] = none_of more (omega arith) in
+    let no_more : more ≡ [] = nil_from_length more (omega arith) in
     let told0 = subst (λ (n : ℕ). TellsAtMost (λ ms. went (marks_from P codes now (Continues s) n ++ ms)) (before ++ more) after (turn_marks P codes t)) first
     told in
     record {

@@ -32,6 +32,7 @@ use Rattle.cj_machine.specs.Stepping.{Turn, StandsAt, IsStep, IsReady, CanGoBack
 use Rattle.cj_machine.specs.Stepping.{EffectTakesMemory, VersionTakesMemory, BaseTakesMemory, PlaceTakesMemory, TopTakesMemory, TurnTakesMemory, IsEntry}
 use Rattle.cj_machine.specs.Stepping.{marks_told}
 use Rattle.cj_engine.specs.Engines.{CanTurn}
+use Rattle.cj_engine.specs.Stretches.{IsCarried}
 use Rattle.cj_machine.proofs.Arms.{place_is, turn_at_base, turn_at_version, marks_at_base, marks_at_version}
 use Rattle.cj_engine.proofs.Fitting.{IsBaseTop, base_top, line_instr, base_fits, IsVersionTop, version_top, version_fits}
 
@@ -66,10 +67,6 @@ entry_same P turn args old now (step.Branches edge) made enters = absurd enters
 entry_same P turn args old now (step.Ends end) made enters = absurd enters
 entry_same P turn args old now (step.Returns v) made enters = absurd enters
 entry_same P turn args old now step.Fails made enters = absurd enters
-
--- what was left to do after a step makes this of the turn
-abbrev IsCarried : Program → List ℤ → State → Step → Codes → Option Look → Progress → Type 0
-IsCarried P args now step later look final = (turn : Turn) (before : State) → IsStep P turn args before now step → turn later look ≡ final
 
 -- A base frame on top, at a line that was found.
 module _ {P : Program} {codes : Codes} {s : State} {f : FunId} {label : Label} {line : Line} (can : CanTurn P codes s) (position : position_of s.stack.top

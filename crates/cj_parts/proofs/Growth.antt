@@ -1,5 +1,5 @@
 -- A report, its marks and its part stay the same when code is added.
-use Rattle.std.proofs.Common.{◌≡◌, ◌≢◌, ◌∙◌, sym, ap, subst, List, [], ◌∷◌, ◌++◌, append-nil, Some, None}
+use Rattle.std.proofs.Common.{◌≡◌, ◌≢◌, ◌∙◌, sym, ap, subst, List, [], ◌∷◌, append-nil, Some, None}
 use Rattle.std.specs.List.{AllZip}
 use Rattle.cj_ir.specs.declared.language.Program.{Program}
 use Rattle.cj_base.specs.Run.{Begun}
@@ -25,12 +25,6 @@ zip_weaker R S f [] [] h = h
 zip_weaker R S f [] (b ∷ ys) h = absurd h
 zip_weaker R S f (a ∷ xs) [] h = absurd h
 zip_weaker R S f (a ∷ xs) (b ∷ ys) h = (f a b h.0, zip_weaker R S f xs ys h.1)
-
-pub zip_push : {A B : Type 0} (R : A → B → Type 0) (xs : List A) (ys : List B) (x : A) (y : B) → AllZip R xs ys → R x y → AllZip R (xs ++ x ∷ []) (ys ++ y ∷ [])
-zip_push R [] [] x y h r = (r, h)
-zip_push R [] (b ∷ ys) x y h r = absurd h
-zip_push R (a ∷ xs) [] x y h r = absurd h
-zip_push R (a ∷ xs) (b ∷ ys) x y h r = (h.0, zip_push R xs ys x y h.1 r)
 
 module _ (P : Program) (codes later : Codes) (g : Grows codes later) where
   pub v_grows : (call : Begun) (r : Report) → IsV P codes call r → IsV P later call r

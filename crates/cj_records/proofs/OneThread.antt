@@ -18,7 +18,8 @@ use Rattle.cj_parts.specs.Looks.{IsAbove, IsNewest, IsNotOlder, looks_of}
 use Rattle.cj_parts.specs.Calls.{IsV}
 use Rattle.cj_parts.specs.Runs.{Ran}
 use Rattle.cj_parts.proofs.Known.{codes_grow}
-use Rattle.cj_parts.proofs.Growth.{v_grows, zip_push}
+use Rattle.cj_ir.proofs.Zips.{AllZip-push}
+use Rattle.cj_parts.proofs.Growth.{v_grows}
 use Rattle.cj_parts.proofs.Rising.{looks_never_fall, trail_push}
 use Rattle.cj_notes.specs.declared.notes.WorkNote.{WorkNote}
 use Rattle.cj_notes.specs.Causes.{Noted, claimed_by}
@@ -132,7 +133,7 @@ module _ (P : Program) (setups : List Setup) where
           rises = looks_never_fall c (looks_of (reports ++ r ∷ [])) ok lookups;
           in_parts = subst (λ (is : List Item). ReadsInParts P (known_codes c) is third) its
               (subst (λ (l : List Read). ReadsInParts P (known_codes c) ((items ++ OfCall call r ∷ []) ++ OfWork note ∷ []) l) all two);
-          versions = zip_push (IsV P (known_codes c)) calls reports call r (are_v_grow P (known_codes a) (known_codes c) before calls reports h.versions)
+          versions = AllZip-push (IsV P (known_codes c)) calls reports call r (are_v_grow P (known_codes a) (known_codes c) before calls reports h.versions)
               (v_grows P (known_codes b) (known_codes c) since call r ran.reads.1.run);
           knows = all_known P c ok noted.noted noted.causes;
         };

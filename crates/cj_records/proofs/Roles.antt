@@ -1,5 +1,5 @@
 -- Setups and a caller's calls, one by one, and a worker's turns.
-use Rattle.std.proofs.Common.{◌≡◌, ◌∙◌, refl, sym, ap, subst, ℕ, ◌≤◌, List, [], ◌∷◌, ◌++◌, map, append-nil, append_assoc}
+use Rattle.std.proofs.Common.{◌≡◌, ◌∙◌, refl, sym, ap, subst, ℕ, List, [], ◌∷◌, ◌++◌, map, append-nil, append_assoc}
 use Rattle.std.specs.Prelude.{All}
 use Rattle.std.specs.List.{AllZip}
 use Rattle.std.proofs.lemmas.List.{map_push}
@@ -20,11 +20,11 @@ use Rattle.cj_publish.specs.Reliable.{IsReliable}
 use Rattle.cj_publish.specs.Fetched.{main_of}
 use Rattle.cj_parts.specs.PartsLaws.{parts_push}
 use Rattle.cj_parts.specs.Known.{known_codes}
-use Rattle.cj_parts.specs.Looks.{looks_of, IsAbove, IsNotOlder}
+use Rattle.cj_parts.specs.Looks.{looks_of, IsAbove}
 use Rattle.cj_parts.specs.Calls.{Stands}
 use Rattle.cj_parts.specs.Runs.{Ran}
 use Rattle.cj_parts.proofs.Known.{codes_grow}
-use Rattle.cj_parts.proofs.Growth.{zip_push}
+use Rattle.cj_ir.proofs.Zips.{AllZip-push}
 use Rattle.cj_parts.proofs.Calling.{ran_above}
 use Rattle.cj_parts.proofs.Rising.{looks_never_fall, looks_push, trail_push}
 use Rattle.cj_notes.specs.declared.notes.WorkNote.{WorkNote}
@@ -91,7 +91,7 @@ module _ (P : Program) where
           acted = record {
             are_warm =
                 subst (λ (ls : List WarmLine). AllZip IsWarmOf ls (warm ++ note ∷ [])) (sym (lines_append begun (Warm f level ∷ [])))
-                (zip_push IsWarmOf (warm_lines begun) warm line note acted.are_warm made.is_line);
+                (AllZip-push IsWarmOf (warm_lines begun) warm line note acted.are_warm made.is_line);
             notes = notes_push P 0 [] v w warm made.works.learns acted.notes n made.works.cause made.works.taken made.works.outcomes;
             lookups = made.works.lookups ∙ acted.lookups;
             in_parts =

@@ -4,9 +4,7 @@ use Rattle.std.proofs.Common.{⊎_elim, arith, length-set, get_or}
 use Rattle.std.specs.Prelude.{ℤ, Contains, count_by, slice_set, slice_index_or}
 use Rattle.std.specs.Option.{option_map}
 use Rattle.std.proofs.lemmas.Option.{none-some, same_Some}
-use Rattle.std.proofs.lemmas.Bool.{cases_eq, cases_lt}
-use Rattle.std.proofs.lemmas.Bool.Decides.{Decides-int_eq}
-use Rattle.std.proofs.lemmas.List.{get_or_past}
+use Rattle.std.proofs.lemmas.Bool.{cases_eq}
 use Rattle.std.proofs.lemmas.List.Sums.{sum_by-set}
 use Rattle.std.proofs.lemmas.List.Elements.{All-contains, All-get_or, Contains-append_right}
 use Rattle.cj_ir.specs.declared.language.Label.{Label}
@@ -19,7 +17,8 @@ use Rattle.cj_draft.specs.declared.code.Code.{Code}
 use Rattle.cj_const.specs.Knowledge.{Knowledge, known}
 use Rattle.cj_const.specs.Flow.{facts_at, IsWithin}
 use Rattle.cj_const.specs.Search.{HasWidth, reached_at, agrees, is_known, rank}
-use Rattle.cj_const.proofs.Rows.{known-set}
+use Rattle.cj_const.proofs.Meeting.{slot-agrees, same-agrees}
+use Rattle.cj_const.proofs.Rows.{known-set, known-inside}
 use Rattle.cj_const.proofs.Monotone.{at-written, at-other}
 use Rattle.cj_const.proofs.SearchSteps.{reached-same}
 use Rattle.cj_sparse.specs.declared.search.Work.{Work}
@@ -35,29 +34,10 @@ Rows = List (Option Row)
 
 -- ---- slots
 
-agrees-some : (s other : Option ℤ) (v : ℤ) → agrees s other ≡ true → s ≡ Some v → other ≡ Some v
-unfolding agrees
-agrees-some None other v yes_ e = absurd (none-some v e)
-agrees-some (Some w) None v yes_ e = absurd (cc)
-agrees-some (Some w) (Some u) v yes_ e = ap Some (sym ((Decides-int_eq w u).0 yes_)) ∙ e
-
-same-agree : (s other : Option ℤ) (v : ℤ) → s ≡ Some v → other ≡ Some v → agrees s other ≡ true
-unfolding agrees
-same-agree None other v e e' = absurd (none-some v e)
-same-agree (Some w) None v e e' = absurd (none-some v e')
-same-agree (Some w) (Some u) v e e' = (Decides-int_eq w u).1 (same_Some w v e ∙ sym (same_Some u v e'))
-
 pub differ-known : (s other : Option ℤ) → agrees s other ≡ false → (v : ℤ) × (s ≡ Some v)
 unfolding agrees
 differ-known None other no_ = absurd (cc)
 differ-known (Some v) other no_ = (v, refl)
-
-pub known-inside : (row : Row) (r : ℕ) (v : ℤ) → known row r ≡ Some v → r < length row
-unfolding known
-known-inside row r v e = ⊎_elim
-    (λ below. below)
-    (λ past. absurd (none-some v (sym (get_or_past row r None past) ∙ e)))
-    (cases_lt r (length row))
 
 -- ---- a row in which a register is forgotten
 
@@ -91,7 +71,7 @@ forgotten-within (Known facts) row a r inside no_ h h' =
     let mine : known row x.reg.0 ≡ Some x.value = All-contains (λ (y : Fact). known row y.reg.0 ≡ Some y.value) facts x h c in
     let others : a x.reg.0 ≡ Some x.value = All-contains (λ (y : Fact). a y.reg.0 ≡ Some y.value) facts x h' c in
     ⊎_elim
-    (λ same. absurd (true-false (sym (same-agree (known row r) (a r) x.value (ap (known row) (sym same) ∙ mine) (ap a (sym same) ∙ others)) ∙ no_)))
+    (λ same. absurd (true-false (sym (same-agrees (known row r) (a r) x.value (ap (known row) (sym same) ∙ mine) (ap a (sym same) ∙ others)) ∙ no_)))
     (λ other. ap (λ (k : Knowledge). k x.reg.0) (known-set row r None inside) ∙ at-other (known row) r x.reg.0 None other ∙ mine)
     (cases_eq x.reg.0 r))
   where
@@ -171,7 +151,7 @@ met-told rows rows' work work' to reg other k inside met here v e = ⊎_elim
     by_kept None is yes_ made = absurd (none-some k (sym (ap (option_map known) is) ∙ sym (ap (λ (r : Rows). reached_at r to) made) ∙ here))
     by_kept (Some row) is yes_ made =
         let same : known row ≡ k = same_Some (known row) k (sym (ap (option_map known) is) ∙ sym (ap (λ (r : Rows). reached_at r to) made) ∙ here) in
-        agrees-some (known row reg.0) other v yes_ (ap (λ (j : Knowledge). j reg.0) same ∙ e)
+        slot-agrees (known row reg.0) other v yes_ (ap (λ (j : Knowledge). j reg.0) same ∙ e)
 
 -- one register more has met
 pub met-more : (rows rows' : Rows) (work work' : List Work) (to : Label) (reg : Reg) (other : Option ℤ) (arrival : Row) (n : ℕ) → to.0 < length rows →

@@ -31,7 +31,7 @@ use Rattle.cj_sparse.specs.Reading.{reads, assigns}
 use Rattle.cj_sparse.specs.Losses.{label_of, EdgeRests, IsPassed, IsItem, IsBegun, IsSearch, LowersAt, Lowers, work_left, GoesOn, IsAbove, slot_at, slot_in}
 use Rattle.cj_sparse.specs.Losses.{HasMet, AreMet}
 use Rattle.cj_sparse.proofs.Lowering.{goes-trans, rests-lowered, row-reached}
-use Rattle.cj_sparse.proofs.Meetings.{differ-known, known-inside, met-goes, met-more}
+use Rattle.cj_sparse.proofs.Meetings.{differ-known, met-goes, met-more}
 use Rattle.cj_sparse.proofs.Passing.{above-next, lost-leaves, lost-none, rests-lost}
 
 abbrev Row : Type 0
