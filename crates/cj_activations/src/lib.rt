@@ -2,8 +2,6 @@
 #![tactic(auto)]
 
 pub mod activations;
-#[cfg(test)]
-mod tests;
 pub mod windows;
 
 pub use activations::Activations;

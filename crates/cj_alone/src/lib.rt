@@ -5,8 +5,6 @@ mod preparing;
 mod rounds;
 mod running;
 mod seats;
-#[cfg(test)]
-mod tests;
 
 pub use preparing::prepare;
 pub use running::alone_with;

@@ -5,6 +5,3 @@ pub mod anchors;
 pub mod laws;
 
 pub use anchors::insert_anchors;
-
-#[cfg(test)]
-mod tests;

@@ -7,6 +7,3 @@ pub mod offences;
 pub mod places;
 
 pub use assumes::immediate;
-
-#[cfg(test)]
-mod tests;

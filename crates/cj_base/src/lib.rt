@@ -5,8 +5,6 @@ pub mod calls;
 pub mod entry;
 pub mod laws;
 pub mod machine;
-#[cfg(test)]
-mod tests;
 pub mod turns;
 
 pub use calls::{Outcome, run};

@@ -7,8 +7,6 @@ mod generator;
 pub mod laws;
 mod scripts;
 mod summary;
-#[cfg(test)]
-mod tests;
 
 pub use generator::{generate, generated};
 pub use summary::summary_of;

@@ -6,6 +6,3 @@ pub mod text;
 
 pub use report::{Look, Looks, MAX_NOTES, Note, Notes, Report, Reports};
 pub use text::{block_of, text_of};
-
-#[cfg(test)]
-mod tests;

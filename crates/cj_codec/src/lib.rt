@@ -12,6 +12,3 @@ pub mod reader;
 
 pub use cj_spelling::encode;
 pub use codes::decode;
-
-#[cfg(test)]
-mod tests;

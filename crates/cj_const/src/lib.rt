@@ -11,6 +11,3 @@ pub mod search;
 
 pub use folding::{fold, fold_over};
 pub use search::strongest;
-
-#[cfg(test)]
-mod tests;

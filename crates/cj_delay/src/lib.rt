@@ -7,6 +7,3 @@ pub mod laws;
 pub mod paths;
 
 pub use delays::delayed;
-
-#[cfg(test)]
-mod tests;

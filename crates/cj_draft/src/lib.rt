@@ -22,6 +22,3 @@ pub use instructions::{Pair, Pairs, VInstr};
 pub use passes::{Pass, Passes, Room, Skipped, Skips, told};
 pub use points::{Frames, Point, PointFrame};
 pub use versions::Version;
-
-#[cfg(test)]
-mod tests;

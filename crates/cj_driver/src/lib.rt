@@ -24,6 +24,3 @@ pub use one_thread::{answer_without_words, top_alone};
 pub use team::{Team, TeamCommand};
 pub use threads::top;
 pub use words::{WordsError, command_words};
-
-#[cfg(test)]
-mod tests;

@@ -11,6 +11,3 @@ pub mod watch;
 pub use calls::{run, run_from};
 pub use engine::{Engine, Ran};
 pub use watch::Watch;
-
-#[cfg(test)]
-mod tests;

@@ -12,8 +12,6 @@ mod passes;
 mod readers;
 mod replays;
 mod tally;
-#[cfg(test)]
-mod tests;
 
 pub use events::{Event, Events};
 pub use replays::parse_replay;

@@ -11,8 +11,6 @@ mod offences;
 mod operands;
 mod scripts;
 mod sentences;
-#[cfg(test)]
-mod tests;
 
 ghost use Rattle.cj_grammar.specs.Plain.{InputIsPlain};
 

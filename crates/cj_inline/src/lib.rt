@@ -11,6 +11,3 @@ pub mod shifts;
 
 pub use inlining::inline;
 pub use offences::called_at;
-
-#[cfg(test)]
-mod tests;

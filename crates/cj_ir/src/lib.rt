@@ -8,8 +8,6 @@ pub mod limits;
 pub mod memory;
 pub mod script;
 pub mod sequence;
-#[cfg(test)]
-mod tests;
 pub mod texts;
 pub mod values;
 

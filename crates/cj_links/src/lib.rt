@@ -8,6 +8,3 @@ pub mod worklist;
 pub use edges::{EdgeId, EdgeLists};
 pub use uses::{UseId, UseLists};
 pub use worklist::Worklist;
-
-#[cfg(test)]
-mod tests;

@@ -9,6 +9,3 @@ pub mod skips;
 
 pub use lowering::lower;
 pub use pipelines::pipeline;
-
-#[cfg(test)]
-mod tests;

@@ -6,7 +6,5 @@ pub mod guards;
 pub mod inlines;
 pub mod limits;
 pub mod plans;
-#[cfg(test)]
-mod tests;
 
 pub use plans::plan;

@@ -11,8 +11,6 @@ pub mod plays;
 pub mod profile;
 pub mod snapshot;
 pub mod steps;
-#[cfg(test)]
-mod tests;
 pub mod view;
 
 pub use jobs::JobAnswer;

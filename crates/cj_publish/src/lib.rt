@@ -12,6 +12,3 @@ pub mod view;
 pub use publishing::{Claim, Published};
 pub use seats::{CodeSeat, CodeTable};
 pub use view::Cell;
-
-#[cfg(test)]
-mod tests;

@@ -16,8 +16,6 @@ mod program;
 mod refusals;
 mod scope;
 mod tables;
-#[cfg(test)]
-mod tests;
 mod words;
 
 pub use program::read_program;

@@ -11,6 +11,3 @@ mod slots;
 mod worker;
 
 pub use run::{TABLE_SIZE, run_roles};
-
-#[cfg(test)]
-mod tests;

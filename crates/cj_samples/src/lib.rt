@@ -12,9 +12,6 @@ use cj_ir::{
 };
 use std::alloc::Global;
 
-#[cfg(test)]
-mod tests;
-
 /// The parameter of a sample.
 pub const N: Operand = Operand::Reg(Reg(0));
 

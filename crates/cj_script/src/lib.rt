@@ -8,8 +8,6 @@ pub mod limits;
 mod places;
 mod script;
 mod setups;
-#[cfg(test)]
-mod tests;
 
 pub use begun::read_begun;
 pub use judge::{function_id, number_within};

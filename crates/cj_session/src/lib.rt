@@ -10,6 +10,3 @@ pub mod watch;
 
 pub use session::Session;
 pub use versions::Versions;
-
-#[cfg(test)]
-mod tests;

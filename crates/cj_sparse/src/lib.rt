@@ -9,6 +9,3 @@ pub mod search;
 
 pub use folding::fold;
 pub use search::strongest;
-
-#[cfg(test)]
-mod tests;

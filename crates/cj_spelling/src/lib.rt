@@ -14,6 +14,3 @@ pub mod spelled;
 pub use codes::{EncodeError, MAX_WORDS, encode, word_count};
 pub use kinds::{ExprKind, InstrKind};
 pub use spelled::{Spelled, Words};
-
-#[cfg(test)]
-mod tests;

@@ -8,8 +8,6 @@
 mod again;
 pub mod laws;
 mod parsing;
-#[cfg(test)]
-mod tests;
 mod texts;
 mod written;
 

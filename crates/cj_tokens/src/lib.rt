@@ -13,8 +13,6 @@ pub mod refusal;
 mod scan;
 mod spelling;
 pub mod terminal;
-#[cfg(test)]
-mod tests;
 pub mod tokens;
 
 pub use lexeme::Lexeme;

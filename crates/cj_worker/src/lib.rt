@@ -8,6 +8,3 @@ mod turns;
 pub mod worker;
 
 pub use worker::Worker;
-
-#[cfg(test)]
-mod tests;

@@ -10,7 +10,4 @@ mod world;
 
 pub use cj_events::{Event, Events, parse_replay};
 pub use played::{Compiled, CompiledList, Played, SkipLists};
-pub use plays::play;
-
-#[cfg(test)]
-mod tests;
+pub use plays::{play, play_in};

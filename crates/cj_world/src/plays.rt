@@ -44,8 +44,10 @@ pub fn play(alloc: Global, checked: &Checked, events: &Events) -> Result<Played,
     Ok(played)
 }
 
-/// The play of events in a table of so many words.
-pub(crate) fn play_in(
+/// The play of events, as by [`play`], in a table of so many words.
+///
+/// A table of fewer words is full earlier.
+pub fn play_in(
     alloc: Global,
     checked: &Checked,
     events: &Events,

@@ -1,7 +1,0 @@
-use Rattle.std.proofs.Common.{◌≡◌}
-use Rattle.cj_session.specs.Sessions.{IsReady}
-use Rattle.cj_session.proofs.tests.returns.Given as goal
-
--- the session can go on, and is of the same program
-abbrev pub invariant-loop : goal.invariant-loop
-invariant-loop l = IsReady l.session × (l.session.checked.now ≡ l.initial.session.checked.now)

@@ -1,9 +1,0 @@
-use Rattle.std.proofs.Common.{◌≤◌}
-use Rattle.cj_sparse.specs.Behind.{AreBehind}
-use Rattle.cj_sparse.proofs.tests.behind.places.Given as goal
-
-abbrev pub invariant-loop-at : goal.invariant-loop-at
-invariant-loop-at l = record {
-  behind : AreBehind l.point l.at l.places;
-  end : l.at ≤ 15;
-}
