@@ -1,5 +1,8 @@
 //! Instructions of versions and drafts.
 
+ghost use Rattle.std.specs.Prelude.{◌≡◌, IfOk};
+ghost use Rattle.cj_draft.specs.declared.instructions.VInstr.TheVariants.{Move, Call, Assume, Anchor};
+
 use crate::points::Point;
 use cj_ir::{Duplicate, Expr, FunId, Guards, Label, NoMemory, Operand, Operands, Reg, Sequence};
 
@@ -85,80 +88,105 @@ impl Duplicate for Pair {
 
 impl Duplicate for VInstr {
     fn copy(&self) -> Result<VInstr, NoMemory> {
-        Ok(match *self {
-            VInstr::Nop { next } => VInstr::Nop { next },
-            VInstr::Op { dest, expr, next } => VInstr::Op { dest, expr, next },
-            VInstr::Move { ref pairs, next } => {
-                let pairs = pairs.copy()?;
-                VInstr::Move { pairs, next }
-            }
+        match *self {
+            VInstr::Nop { next } => Ok(VInstr::Nop { next }),
+            VInstr::Op { dest, expr, next } => Ok(VInstr::Op { dest, expr, next }),
+            VInstr::Move { ref pairs, next } => copied_move(pairs, next),
             VInstr::Cond {
                 test,
                 then_to,
                 else_to,
-            } => VInstr::Cond {
+            } => Ok(VInstr::Cond {
                 test,
                 then_to,
                 else_to,
-            },
+            }),
             VInstr::Call {
                 dest,
                 function,
                 ref args,
                 next,
-            } => {
-                let args = args.copy()?;
-                VInstr::Call {
-                    dest,
-                    function,
-                    args,
-                    next,
-                }
-            }
-            VInstr::Return { value } => VInstr::Return { value },
-            VInstr::Print { value, next } => VInstr::Print { value, next },
+            } => copied_call(dest, function, args, next),
+            VInstr::Return { value } => Ok(VInstr::Return { value }),
+            VInstr::Print { value, next } => Ok(VInstr::Print { value, next }),
             VInstr::Load {
                 dest,
                 address,
                 next,
-            } => VInstr::Load {
+            } => Ok(VInstr::Load {
                 dest,
                 address,
                 next,
-            },
+            }),
             VInstr::Store {
                 address,
                 value,
                 next,
-            } => VInstr::Store {
+            } => Ok(VInstr::Store {
                 address,
                 value,
                 next,
-            },
-            VInstr::Fail { function, label } => VInstr::Fail { function, label },
+            }),
+            VInstr::Fail { function, label } => Ok(VInstr::Fail { function, label }),
             VInstr::Assume {
                 ref guards,
                 back,
                 ref target,
                 next,
-            } => {
-                let guards = guards.copy()?;
-                let target = target.copy()?;
-                VInstr::Assume {
-                    guards,
-                    back,
-                    target,
-                    next,
-                }
-            }
+            } => copied_assume(guards, back, target, next),
             VInstr::Anchor {
                 back,
                 ref target,
                 next,
-            } => {
-                let target = target.copy()?;
-                VInstr::Anchor { back, target, next }
-            }
-        })
+            } => copied_anchor(back, target, next),
+        }
     }
+}
+
+/// The Move of a copy of these assignments. Fails only for want of memory.
+fn copied_move(pairs: &Pairs, next: Label) -> Result<VInstr, NoMemory>
+    ensures { IfOk result (λ twin. twin ≡ Move pairs.now next) }
+{
+    let pairs = pairs.copy()?;
+    Ok(VInstr::Move { pairs, next })
+}
+
+/// The Call with a copy of these arguments. Fails only for want of memory.
+fn copied_call(dest: Reg, function: FunId, args: &Operands, next: Label) -> Result<VInstr, NoMemory>
+    ensures { IfOk result (λ twin. twin ≡ Call dest function args.now next) }
+{
+    let args = args.copy()?;
+    Ok(VInstr::Call {
+        dest,
+        function,
+        args,
+        next,
+    })
+}
+
+/// The Assume of copies of these guards and this target. Fails only for want of memory.
+fn copied_assume(
+    guards: &Guards,
+    back: u32,
+    target: &Point,
+    next: Label,
+) -> Result<VInstr, NoMemory>
+    ensures { IfOk result (λ twin. twin ≡ Assume guards.now back target.now next) }
+{
+    let guards = guards.copy()?;
+    let target = target.copy()?;
+    Ok(VInstr::Assume {
+        guards,
+        back,
+        target,
+        next,
+    })
+}
+
+/// The Anchor of a copy of this target. Fails only for want of memory.
+fn copied_anchor(back: u32, target: &Point, next: Label) -> Result<VInstr, NoMemory>
+    ensures { IfOk result (λ twin. twin ≡ Anchor back target.now next) }
+{
+    let target = target.copy()?;
+    Ok(VInstr::Anchor { back, target, next })
 }
