@@ -1,7 +1,7 @@
 -- A code with the same points, facts and pairs at each label of another: whatever arrives in the one arrives in the other.
 use Rattle.std.proofs.Common.{◌≡◌, List, Some, sym, ap, ◌∙◌, subst, inl}
 use Rattle.std.proofs.lemmas.Option.{same_Some}
-use Rattle.std.specs.Prelude.{ℤ, slice_set}
+use Rattle.std.specs.Prelude.{ℕ, ℤ, slice_set}
 use Rattle.std.specs.List.{Contains}
 use Rattle.cj_ir.specs.declared.language.Label.{Label}
 use Rattle.cj_ir.specs.declared.language.Program.{Program}
