@@ -4,7 +4,11 @@
 #[cfg(test)]
 mod anchor;
 #[cfg(test)]
+mod assume;
+#[cfg(test)]
 mod constants;
+#[cfg(test)]
+mod delay;
 #[cfg(test)]
 mod inline;
 #[cfg(test)]
