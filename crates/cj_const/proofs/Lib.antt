@@ -13,5 +13,3 @@ pub mod Meeting
 pub mod SearchSteps
 pub mod SearchEnds
 pub mod SearchCalls
-pub mod DeadSound
-pub mod BehindSound

@@ -2,4 +2,3 @@ pub mod Knowledge
 pub mod Flow
 pub mod Folding
 pub mod Search
-pub mod Behind

@@ -5,4 +5,3 @@ pub mod Passing
 pub mod SearchCalls
 pub mod SearchEnds
 pub mod Holding
-pub mod Behind

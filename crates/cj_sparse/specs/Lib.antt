@@ -1,4 +1,3 @@
 pub mod Reading
 pub mod Losses
 pub mod Holding
-pub mod Behind

@@ -6,7 +6,7 @@ ghost use Rattle.cj_ir.specs.declared.language.Guard.TheVariants.{Is};
 ghost use Rattle.cj_base.specs.Machine.{Faults, BadAddress};
 ghost use Rattle.cj_draft.specs.declared.instructions.VInstr.TheVariants.{Assume};
 ghost use Rattle.cj_draft.specs.Effects.{version_effect, Plain};
-ghost use Rattle.cj_const.specs.Behind.{reg, label, failing, six, swap, guards, place, behind};
+ghost use Rattle.cj_test_passes.specs.ByHand.{reg, label, failing, six, swap, guards, place, behind};
 
 use super::{has_facts, is_unreached};
 use cj_const::knowledge::{known, row_of};

@@ -8,8 +8,8 @@ ghost use Rattle.cj_draft.specs.declared.limits.TheConstants.{MAX_GUARDS};
 ghost use Rattle.cj_draft.specs.Effects.{version_effect, Plain};
 ghost use Rattle.cj_draft.specs.Sound.{guard_next};
 ghost use Rattle.cj_draft.specs.WellNamed.{ArePairsFine, IsGuardWithin};
-ghost use Rattle.cj_const.specs.Behind.{reg, failing, place};
-ghost use Rattle.cj_sparse.specs.Behind.{IsNamedOver, IsDead, AreBehind, is_free, ends_by, are_ended};
+ghost use Rattle.cj_test_passes.specs.ByHand.{reg, failing, place};
+ghost use Rattle.cj_test_passes.specs.Behind.{IsNamedOver, IsDead, AreBehind, is_free, ends_by, are_ended};
 
 use super::{Numbers, are_same, count, program};
 use cj_draft::laws::base_body_is_sound;

@@ -10,8 +10,8 @@ use Rattle.cj_draft.specs.BaseBody.{base_code}
 use Rattle.cj_draft.specs.Bodies.{Body}
 use Rattle.cj_draft.specs.WellNamed.{IsContextOf}
 use Rattle.cj_draft.specs.Sound.{Sound}
-use Rattle.cj_const.proofs.BehindSound.{behind_sound, first_fits}
-use Rattle.cj_const.proofs.DeadSound.{regs_of_base}
+use Rattle.cj_test_passes.proofs.ByHandSound.{behind_sound, first_fits}
+use Rattle.cj_test_passes.proofs.DeadSound.{regs_of_base}
 use Rattle.cj_test_passes.proofs.constants.by_hand.draft.Goals as goal
 
 pub adopt_in-requires-clause-context : goal.adopt_in-requires-clause-context

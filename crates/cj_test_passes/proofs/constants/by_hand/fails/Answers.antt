@@ -4,7 +4,7 @@ use Rattle.cj_base.specs.Machine.{Faults, BadAddress}
 use Rattle.cj_draft.specs.declared.instructions.VInstr.{VInstr}
 use Rattle.cj_draft.specs.declared.instructions.VInstr.TheVariants.{Store}
 use Rattle.cj_draft.specs.Effects.{version_effect, Plain}
-use Rattle.cj_const.proofs.DeadSound.{store_fails}
+use Rattle.cj_test_passes.proofs.DeadSound.{store_fails}
 use Rattle.cj_test_passes.proofs.constants.by_hand.fails.Goals as goal
 
 pub returns-in-Store : goal.returns-in-Store

@@ -9,10 +9,10 @@ use Rattle.cj_draft.specs.declared.code.Code.{Code}
 use Rattle.cj_draft.specs.BaseBody.{base_code}
 use Rattle.cj_draft.specs.Bodies.{Body}
 use Rattle.cj_draft.specs.WellNamed.{IsContextOf}
-use Rattle.cj_const.proofs.BehindSound.{first_fits}
-use Rattle.cj_const.proofs.DeadSound.{regs_of_base}
-use Rattle.cj_sparse.specs.Behind.{are_ended}
-use Rattle.cj_sparse.proofs.Behind.{behind_sound}
+use Rattle.cj_test_passes.proofs.ByHandSound.{first_fits}
+use Rattle.cj_test_passes.proofs.DeadSound.{regs_of_base}
+use Rattle.cj_test_passes.specs.Behind.{are_ended}
+use Rattle.cj_test_passes.proofs.BehindSound.{behind_sound}
 use Rattle.cj_test_passes.proofs.sparse.behind.draft.Goals as goal
 
 pub adopt_in-requires-clause-context : goal.adopt_in-requires-clause-context

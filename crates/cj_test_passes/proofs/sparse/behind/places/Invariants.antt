@@ -1,5 +1,5 @@
 use Rattle.std.proofs.Common.{◌≤◌}
-use Rattle.cj_sparse.specs.Behind.{AreBehind}
+use Rattle.cj_test_passes.specs.Behind.{AreBehind}
 use Rattle.cj_test_passes.proofs.sparse.behind.places.Given as goal
 
 abbrev pub invariant-loop-at : goal.invariant-loop-at

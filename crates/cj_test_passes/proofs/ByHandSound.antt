@@ -24,8 +24,8 @@ use Rattle.cj_draft.specs.WellNamed.{AreFactsFine, IsGuardWithin, IsVInstrFine, 
 use Rattle.cj_draft.specs.Arrives.{place_at}
 use Rattle.cj_draft.specs.Sound.{guard_next, RowWithin, Sound}
 use Rattle.cj_draft.specs.BaseBody.{base_code}
-use Rattle.cj_const.proofs.DeadSound.{regs_of_base, first_fine, dead_sound}
-use Rattle.cj_const.specs.Behind.{reg, label, failing, six, swap, guards, place, behind, behind_code}
+use Rattle.cj_test_passes.proofs.DeadSound.{regs_of_base, first_fine, dead_sound}
+use Rattle.cj_test_passes.specs.ByHand.{reg, label, failing, six, swap, guards, place, behind, behind_code}
 
 regs-differ : reg 0 ≡ reg 1 → ⊥
 regs-differ e = let h : 1 ≤ 0 = subst (λ (r : Reg). r.0 ≤ 0) e (le_refl 0) in absurd (omega arith)

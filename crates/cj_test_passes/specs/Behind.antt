@@ -10,7 +10,7 @@ use Rattle.cj_draft.specs.declared.instructions.VInstr.{VInstr}
 use Rattle.cj_draft.specs.declared.code.Place.{Place}
 use Rattle.cj_draft.specs.WellNamed.{IsPointFine, IsVInstrFine}
 use Rattle.cj_draft.specs.Sound.{guard_next}
-use Rattle.cj_const.specs.Behind.{failing, place}
+use Rattle.cj_test_passes.specs.ByHand.{failing, place}
 
 -- over a fine point all that the instruction names exists
 abbrev pub IsNamedOver : Point → VInstr → Type 0

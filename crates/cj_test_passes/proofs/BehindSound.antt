@@ -20,9 +20,9 @@ use Rattle.cj_draft.specs.WellNamed.{IsPointFine, IsBackFine, IsPlaceFine}
 use Rattle.cj_draft.specs.Arrives.{place_at}
 use Rattle.cj_draft.specs.Sound.{RowWithin, Sound, guard_next}
 use Rattle.cj_draft.specs.BaseBody.{base_code}
-use Rattle.cj_const.specs.Behind.{label, failing, place}
-use Rattle.cj_const.proofs.DeadSound.{regs_of_base, first_fine, dead_sound}
-use Rattle.cj_sparse.specs.Behind.{IsDead, AreBehind, is_free, ends_by, are_ended}
+use Rattle.cj_test_passes.specs.ByHand.{label, failing, place}
+use Rattle.cj_test_passes.proofs.DeadSound.{regs_of_base, first_fine, dead_sound}
+use Rattle.cj_test_passes.specs.Behind.{IsDead, AreBehind, is_free, ends_by, are_ended}
 
 -- ---- rows
 

@@ -31,7 +31,7 @@ use Rattle.cj_draft.specs.BaseBody.{base_place, base_code}
 use Rattle.cj_draft.proofs.Adopted.{no_facts}
 use Rattle.cj_draft.proofs.BasePlaces.{base_place_at}
 use Rattle.cj_draft.proofs.Lists.{fine_of}
-use Rattle.cj_const.specs.Behind.{label, failing, place}
+use Rattle.cj_test_passes.specs.ByHand.{label, failing, place}
 
 -- a store to an address that no memory has fails
 pub store_fails :

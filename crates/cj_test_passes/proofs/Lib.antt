@@ -1,0 +1,3 @@
+pub mod DeadSound
+pub mod ByHandSound
+pub mod BehindSound
