@@ -10,4 +10,3 @@ pub mod Standing
 pub mod Carrying
 pub mod Fitting
 pub mod Turning
-pub mod Walking

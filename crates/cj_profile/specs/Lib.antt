@@ -8,4 +8,3 @@ pub mod Seats
 pub mod Shapes
 pub mod Steps
 pub mod Limits
-pub mod Worked

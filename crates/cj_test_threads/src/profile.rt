@@ -2,7 +2,7 @@
 
 ghost use Rattle.std.specs.Prelude.{◌≡◌, ◌<◌, true, false, IfOk, IsTrue};
 ghost use Rattle.cj_profile.specs.Seats.{program_of, Belongs};
-ghost use Rattle.cj_profile.specs.Worked.{IsIncrement};
+ghost use Rattle.cj_test_threads.specs.Increment.{IsIncrement};
 
 use cj_ir::{Checked, Edge, FunId, Label};
 use cj_profile::{EdgeNote, JobAnswer, ParamNote, Profile, ProfileSeat};

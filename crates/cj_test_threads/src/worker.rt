@@ -3,7 +3,7 @@
 ghost use Rattle.std.specs.Prelude.{◌≡◌, ◌<◌, ◌≤◌, length, IsTrue, IfOk};
 ghost use Rattle.cj_ir.specs.Program.{param_count};
 ghost use Rattle.cj_profile.specs.Seats.{program_of, Belongs};
-ghost use Rattle.cj_worker.specs.Worked.{main, HasMain, HasDouble};
+ghost use Rattle.cj_test_threads.specs.Doubles.{main, HasMain, HasDouble};
 ghost use Rattle.cj_worker.specs.Workers.{program_in, IsReady};
 
 use cj_io::OpenGate;

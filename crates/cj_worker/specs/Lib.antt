@@ -1,4 +1,3 @@
 pub mod Tasks
 pub mod Answers
 pub mod Workers
-pub mod Worked

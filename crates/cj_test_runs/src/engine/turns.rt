@@ -3,8 +3,8 @@
 ghost use Rattle.std.specs.Prelude.{◌≡◌, ◌≤◌, true, length, ⊤, IfOk, None};
 ghost use Rattle.cj_ir.specs.WellFormed.{Takes};
 ghost use Rattle.cj_machine.specs.CodeMaps.{no_codes};
-ghost use Rattle.cj_engine.specs.NoCodes.{no_codes_sound};
-ghost use Rattle.cj_engine.specs.Walks.{Walks};
+ghost use Rattle.cj_test_runs.specs.NoCodes.{no_codes_sound};
+ghost use Rattle.cj_test_runs.specs.Walks.{Walks};
 
 use super::{add_line, call_of, is_limit, named, takes};
 use cj_base::{End, Turned};
@@ -117,7 +117,7 @@ fn program(rt: &impl Abort, alloc: Global) -> Result<Checked, Fail> {
 }
 
 // A start over a memory of the cells 8 and 9.
-#[tactic(auto, using(cj_engine::proofs::Walking::run_walks))]
+#[tactic(auto, using(crate::proofs::Walking::run_walks))]
 fn started<'p>(
     alloc: Global,
     checked: &'p Checked,

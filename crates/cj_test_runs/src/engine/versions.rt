@@ -2,7 +2,7 @@
 
 ghost use Rattle.std.specs.Prelude.{◌≡◌, true, ⊤, IfOk};
 ghost use Rattle.cj_draft.specs.Bodies.{IsNoAnchor, HasNoAnchors};
-ghost use Rattle.cj_engine.specs.OneVersion.{IsOneOf};
+ghost use Rattle.cj_test_runs.specs.OneVersion.{IsOneOf};
 
 use super::{MAIN, add_line, call_of, is_limit, named, takes};
 use cj_base::End;
@@ -28,7 +28,7 @@ struct OneVersion<'p> {
 }
 
 impl<'p> Watch for OneVersion<'p> {
-    ghost use Rattle.cj_engine.specs.OneVersion.{one_code, one_sound};
+    ghost use Rattle.cj_test_runs.specs.OneVersion.{one_code, one_sound};
 
     ghost program = { λ w. w.checked.now };
 
@@ -42,7 +42,7 @@ impl<'p> Watch for OneVersion<'p> {
 
     ghost ready = { λ w. IsOneOf w.checked.now w.version };
 
-    #[tactic(auto, unfolding(cj_engine::specs::OneVersion::one_code, cj_engine::specs::OneVersion::if_both))]
+    #[tactic(auto, unfolding(crate::specs::OneVersion::one_code, crate::specs::OneVersion::if_both))]
     fn enter(&mut self, f: FunId, _args: &[i64]) -> Result<u64, NoMemory> {
         let offset = if f.0 == self.version.code().function.0 {
             2
@@ -56,7 +56,7 @@ impl<'p> Watch for OneVersion<'p> {
         Ok(offset)
     }
 
-    #[tactic(auto, using(cj_engine::proofs::Walking::one_found))]
+    #[tactic(auto, using(crate::proofs::Walking::one_found))]
     fn version(&self, _f: FunId, _offset: u64) -> &Version<'_> {
         &self.version
     }

@@ -1,5 +1,5 @@
 use Rattle.std.proofs.Common.{◌<◌, arith}
-use Rattle.cj_engine.proofs.Walking.{walk_under_way, walk_goes}
+use Rattle.cj_test_runs.proofs.Walking.{walk_under_way, walk_goes}
 use Rattle.cj_test_runs.proofs.engine.turns.turned.Goals as goal
 
 pub turn-requires-clause-way : goal.turn-requires-clause-way

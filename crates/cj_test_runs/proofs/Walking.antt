@@ -3,7 +3,7 @@ use Rattle.std.proofs.Common.{◌≡◌, ◌<◌, ℕ, refl, sym, subst, List}
 use Rattle.std.specs.Prelude.{ℤ, Bool, true, false, Some, IsSome, ◌==◌}
 use Rattle.cj_ir.specs.declared.language.FunId.{FunId}
 use Rattle.cj_draft.specs.declared.code.Code.{Code}
-use Rattle.cj_engine.specs.OneVersion.{if_both, one_code}
+use Rattle.cj_test_runs.specs.OneVersion.{if_both, one_code}
 use Rattle.cj_ir.specs.declared.language.Program.{Program}
 use Rattle.cj_ir.specs.declared.script.ScriptCall.{ScriptCall}
 use Rattle.cj_base.specs.declared.machine.Turned.{Turned}
@@ -14,7 +14,7 @@ use Rattle.cj_machine.specs.Versions.{State}
 use Rattle.cj_machine.specs.CodeMaps.{no_codes}
 use Rattle.cj_engine.specs.Engines.{begun_with}
 use Rattle.cj_machine.specs.CallRuns.{IsUnderWay, IsRun, RunGoes}
-use Rattle.cj_engine.specs.Walks.{Walks}
+use Rattle.cj_test_runs.specs.Walks.{Walks}
 use Rattle.cj_machine.proofs.Going.{run_under_way}
 
 both_found : (own there : Bool) (code : Code) → IsSome (if_both own there code) → if_both own there code ≡ Some code

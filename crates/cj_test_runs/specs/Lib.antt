@@ -1,0 +1,3 @@
+pub mod NoCodes
+pub mod Walks
+pub mod OneVersion
