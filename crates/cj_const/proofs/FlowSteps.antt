@@ -1,6 +1,7 @@
 -- The steps of the loops over assignments and guards.
 use Rattle.std.proofs.Common.{◌≡◌, ℕ, ◌+◌, ◌<◌, ◌≤◌, Bool, true, false, List, [], ◌∷◌, length, drop, get_or, Option, Some, None, refl, sym, ap, ◌∙◌, arith}
 use Rattle.std.specs.Prelude.{ℤ, All, slice_set}
+use Rattle.std.proofs.lemmas.List.{drop_all}
 use Rattle.cj_ir.specs.declared.language.Guard.{Guard}
 use Rattle.cj_draft.specs.declared.instructions.Pair.{Pair}
 use Rattle.cj_const.specs.Knowledge.{Knowledge, with_known, known, known_value}

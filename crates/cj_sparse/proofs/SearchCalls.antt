@@ -25,6 +25,7 @@ use Rattle.cj_const.specs.Knowledge.{Knowledge, known}
 use Rattle.cj_const.specs.Flow.{leaves}
 use Rattle.cj_const.specs.Search.{SaysLess, HasWidth, reached_at, agrees}
 use Rattle.cj_const.proofs.SearchCalls.{read-at, place-read}
+use Rattle.cj_const.proofs.Rows.{known-inside}
 use Rattle.cj_sparse.specs.declared.search.Work.{Work}
 use Rattle.cj_sparse.specs.declared.search.Work.TheVariants.{Reached, Lost}
 use Rattle.cj_sparse.specs.Reading.{reads, assigns}
