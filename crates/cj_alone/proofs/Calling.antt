@@ -8,7 +8,7 @@ use Rattle.cj_base.specs.Run.{Begun, begun}
 use Rattle.cj_calls.specs.declared.report.Report.{Report}
 use Rattle.cj_publish.specs.Reliable.{IsReliable}
 use Rattle.cj_parts.specs.Calls.{Stands}
-use Rattle.cj_parts.proofs.Growth.{zip_push}
+use Rattle.cj_ir.proofs.Zips.{AllZip-push}
 use Rattle.cj_notes.specs.declared.notes.WorkNote.{WorkNote}
 use Rattle.cj_records.specs.Items.{setup_items}
 use Rattle.cj_records.specs.Loops.{Prepared, RoundsShow}
@@ -34,7 +34,7 @@ module _ (P : Program) (start : Progress) where
   pub rounds_push : (calls : List Begun) (call : Begun) (a b : Progress) → RoundsMade P calls start a → RoundMade P call a b → IsReliable (view_at b.seats) →
       RoundsMade P (calls ++ call ∷ []) start b
   rounds_push calls call a b h r ok = record {
-    headline = subst (HasHeadline P (calls ++ call ∷ [])) (sym r.reports) (zip_push (Stands P) calls a.reports call r.report h.headline r.ran.stands);
+    headline = subst (HasHeadline P (calls ++ call ∷ [])) (sym r.reports) (AllZip-push (Stands P) calls a.reports call r.report h.headline r.ran.stands);
     shows = λ (setups : List Setup) (p : Prepared P setups setups start.work (view_at start.seats) (reads_at start.seats)).
         subst (λ (rs : List Report). RoundsShow P setups (calls ++ call ∷ []) rs b.work (view_at b.seats) (reads_at b.seats)) (sym r.reports)
         (subst (λ (ns : List WorkNote). RoundsShow P setups (calls ++ call ∷ []) (a.reports ++ r.report ∷ []) ns (view_at b.seats) (reads_at b.seats))

@@ -7,7 +7,7 @@ use Rattle.cj_profile.specs.declared.profile.Profile.{Profile}
 use Rattle.cj_publish.specs.declared.seats.CodeTable.{CodeTable}
 use Rattle.cj_publish.specs.Seats.{view_of}
 use Rattle.cj_publish.specs.Views.{given}
-use Rattle.cj_parts.proofs.Growth.{zip_push}
+use Rattle.cj_ir.proofs.Zips.{AllZip-push}
 use Rattle.cj_records.specs.declared.store.Store.{Store}
 use Rattle.cj_records.specs.Chains.{numbers_from}
 use Rattle.cj_roles.specs.declared.role.Role.{Role}
@@ -57,7 +57,7 @@ module _ (a b c : Store) (roles : List Role) (slots after : List Slot) (role : R
       joined = d.split.joined ∙ h.split.joined;
     };
     slots_are = subst (AllZip (IsFor a.code a.profile (view_of a.code_seat)) (roles ++ role ∷ [])) (sym d.slots)
-        (zip_push (IsFor a.code a.profile (view_of a.code_seat)) roles slots role (Given d.job) h.slots_are job_is);
+        (AllZip-push (IsFor a.code a.profile (view_of a.code_seat)) roles slots role (Given d.job) h.slots_are job_is);
   }
 
 -- ---- the roles so far

@@ -3,7 +3,7 @@ use Rattle.std.proofs.Common.{◌≡◌, ◌∙◌, refl, sym, ap, subst, ℕ, z
 use Rattle.std.proofs.Common.{length-append}
 use Rattle.std.specs.List.{AllZip}
 use Rattle.std.proofs.lemmas.List.{map_push}
-use Rattle.cj_parts.proofs.Growth.{zip_push}
+use Rattle.cj_ir.proofs.Zips.{AllZip-push}
 use Rattle.cj_records.proofs.Heads.{head_or, tail_of}
 use Rattle.cj_records.specs.Chains.{flat, alone_each, share, numbers_from, dealt}
 
@@ -134,6 +134,6 @@ piled {B = B} n (x ∷ xs) piles h = next (λ ps k. piled n xs ps k) piles (subs
     next more ([] ∷ ps) h = let e : suc (length (share (suc n) n xs)) ≡ 0 = h.0 in absurd (omega (arith, e))
     next more ((y ∷ q) ∷ ps) h =
         let e : suc (length (share (suc n) n xs)) ≡ suc (length q) = h.0 in
-        let both = zip_push (λ l m. length l ≡ length m) (others n xs) ps (share (suc n) n xs) q h.1 (omega (arith, e)) in
+        let both = AllZip-push (λ l m. length l ≡ length m) (others n xs) ps (share (suc n) n xs) q h.1 (omega (arith, e)) in
         let r = more (ps ++ q ∷ []) (subst (λ l. AreAsLong l (ps ++ q ∷ [])) (sym (shares_last n xs)) both) in
         (y ∷ r.0, put_first n y r.0 q ps r.1, ap suc r.2)
