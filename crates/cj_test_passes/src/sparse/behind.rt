@@ -303,7 +303,7 @@ fn guard_next(instr: &VInstr) -> Option<Label>
     }
 }
 
-#[tactic(auto, unfolding(cj_sparse::specs::Behind::is_free))]
+#[tactic(auto, unfolding(crate::specs::Behind::is_free))]
 fn is_free(places: &[Place], label: Label) -> bool
     ensures { result ≡ is_free (slice_get places.now label.0) }
 {
@@ -313,7 +313,7 @@ fn is_free(places: &[Place], label: Label) -> bool
     }
 }
 
-#[tactic(auto, unfolding(cj_sparse::specs::Behind::ends_by))]
+#[tactic(auto, unfolding(crate::specs::Behind::ends_by))]
 fn ends_by(places: &[Place], next: Option<Label>) -> bool
     ensures { result ≡ ends_by places.now next }
 {
@@ -324,7 +324,7 @@ fn ends_by(places: &[Place], next: Option<Label>) -> bool
 }
 
 // Whether no Assume goes on to another.
-#[tactic(auto, unfolding(cj_sparse::specs::Behind::are_ended))]
+#[tactic(auto, unfolding(crate::specs::Behind::are_ended))]
 fn are_ended(places: &[Place]) -> bool
     ensures { result ≡ are_ended places.now }
 {
