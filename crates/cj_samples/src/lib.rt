@@ -1,8 +1,10 @@
 //! Small programs that tests are about, and the parts that such programs are put together from.
 #![tactic(auto)]
 
-ghost use Rattle.std.specs.Prelude.{◌≡◌, [], ◌∷◌, map, All, IfOk, IsTrue, pos};
+ghost use Rattle.std.specs.Prelude.{◌≡◌, ◌≢◌, [], ◌∷◌, map, All, IfOk, IfErr, Err, IsTrue, pos};
 ghost use Rattle.cj_ir.specs.Texts.{is_name};
+ghost use Rattle.cj_ir.specs.Verdicts.{program_verdict};
+ghost use Rattle.cj_ir.specs.declared.checker.CheckError.TheVariants as offences;
 ghost use Rattle.cj_ir.specs.declared.language.Instr.TheVariants.{Op, Cond, Call, Print};
 ghost use Rattle.cj_samples.specs.Samples.{lines_of, function_of, increment, constant_zero, double, recursion, jump};
 
@@ -82,7 +84,8 @@ pub fn function(alloc: Global, word: &str, code: Lines) -> Result<Function, NoMe
 
 /// The checked program of one function, which is well-formed alone.
 pub fn alone(function: Function) -> Result<Checked, CheckError>
-    ensures { IfOk result (λ checked. checked.functions ≡ function ∷ []) }
+    ensures whole { IfOk result (λ checked. checked.functions ≡ function ∷ []) }
+    ensures refused { IfErr result (λ offence. offence ≢ offences.NoMemory → program_verdict (record { functions = function ∷ [] }) ≡ Err offence) }
 {
     let mut functions = Functions::new(function.code.allocator());
     match functions.push(function) {
