@@ -54,6 +54,7 @@ fn returns(
     requires limit { (1 ≤ call.now.limit) × (call.now.limit ≤ 1000000) }
     ensures ready { IsReady session.new }
     ensures checked { session.new.checked.now ≡ session.old.checked.now }
+    ensures profile { session.new.profile.now ≡ session.old.profile.now }
 {
     let mut plain = true;
     for _ in 0..times {
@@ -61,6 +62,15 @@ fn returns(
         plain = plain && is_plain(&report, value, lookups);
     }
     Ok(plain)
+}
+
+// What is asked for.
+fn job(session: Session<'_>, profile: &Profile) -> JobAnswer
+    requires ready { IsReady session }
+    requires profile { session.profile.now ≡ profile.now }
+{
+    let (_, mut profile_seat) = session.into_seats();
+    profile.take_job(&mut profile_seat)
 }
 
 // Calls in a session at new tables. Whether all were plain, and what is asked for after them.
@@ -87,8 +97,7 @@ fn asked(
         versions,
     );
     let plain = returns(&mut session, call, times, value, lookups)?;
-    let (_, mut profile_seat, _) = session.into_parts();
-    Ok((plain, profile.take_job(&mut profile_seat)))
+    Ok((plain, job(session, &profile)))
 }
 
 #[test]
